@@ -1,0 +1,4 @@
+pub mod Queue
+pub mod Ledger
+pub mod Codes
+pub mod Flat

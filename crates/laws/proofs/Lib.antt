@@ -1,0 +1,5 @@
+pub mod Bytes
+pub mod Table
+pub mod Refusals
+pub mod Outcome
+pub mod Keys

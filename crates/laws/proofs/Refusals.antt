@@ -1,0 +1,59 @@
+-- A refusal is given exactly when its row says.
+-- Assumes nothing.
+use mathlib.Core.Path.{_≡_, refl, sym, ap, _∙_}
+use mathlib.Core.Bool.{Bool, true, false, not}
+use mathlib.Core.List.{List, [], _∷_}
+use Prim.Native.Nat.{ℕ}
+use lib.Dec.{eqb}
+use borrow.Author.Tests.{not-true, eqb-true, eq-eqb}
+use Rattle.laws.specs.Choice.{pick, both}
+use Rattle.laws.specs.Refusals.{Row, first, due}
+
+parts : (b c : Bool) → both b c ≡ true → (b ≡ true) × (c ≡ true)
+parts true c h = (refl, h)
+parts false c h = (h, cc)
+
+both-false : (b : Bool) → both b false ≡ false
+both-false true = refl
+both-false false = refl
+
+picked : (b : Bool) → pick b true false ≡ b
+picked true = refl
+picked false = refl
+
+module _ {A : Type 0} (number : A → ℕ) where
+  -- the number m is neither 0 nor a row's
+  abbrev fresh : ℕ → List (Row A) → Bool
+  fresh m [] = not (eqb m 0)
+  fresh m (r ∷ rs) = both (not (eqb m (number (r .answer)))) (fresh m rs)
+
+  -- the numbers of the rows differ, and none is 0
+  abbrev pub apart : List (Row A) → Bool
+  apart [] = true
+  apart (r ∷ rs) = both (fresh (number (r .answer)) rs) (apart rs)
+
+  not-due : (rs : List (Row A)) (m : ℕ) → fresh m rs ≡ true → due number rs m ≡ false
+  not-due [] m h = not-true (eqb m 0) h
+  not-due (r ∷ rs) m h =
+      let p = parts (not (eqb m (number (r .answer)))) (fresh m rs) h in
+      simp (not-true (eqb m (number (r .answer))) (p .0), not-due rs m (p .1), both-false)
+
+  later : (e : Bool) (m n : ℕ) (rs : List (Row A)) → eqb n m ≡ e → fresh m rs ≡ true → due number rs n ≡ pick e false (due number rs n)
+  later true m n rs e f = rw (eqb-true n m e) (not-due rs m f)
+  later false m n rs e f = refl
+
+  one : (b : Bool) (x done : A) (n : ℕ) (rs : List (Row A)) → fresh (number x) rs ≡ true → eqb n (number (first done rs)) ≡ due number rs n
+      → eqb n (number (pick b x (first done rs))) ≡ pick (eqb n (number x)) b (both (not b) (due number rs n))
+  one true x done n rs f h = sym (picked (eqb n (number x)))
+  one false x done n rs f h = h ∙ later (eqb n (number x)) (number x) n rs refl f
+
+  -- where the numbers of the rows are apart, n is given exactly when n is due
+  pub exact : (done : A) → number done ≡ 0 → (rs : List (Row A)) (n : ℕ) → apart rs ≡ true → eqb n (number (first done rs)) ≡ due number rs n
+  exact done z [] n h = ap (λ (k : ℕ). eqb n k) z
+  exact done z (r ∷ rs) n h =
+      let p = parts (fresh (number (r .answer)) rs) (apart rs) h in
+      one (r .holds) (r .answer) done n rs (p .0) (exact done z rs n (p .1))
+
+-- as an equivalence
+pub ways : {n m : ℕ} {b : Bool} → eqb n m ≡ b → (m ≡ n → b ≡ true) × (b ≡ true → m ≡ n)
+ways {n} {m} e = (λ p. sym e ∙ eq-eqb n m (sym p), λ t. sym (eqb-true n m (e ∙ t)))

@@ -1,0 +1,24 @@
+-- 01, "Numbers given back": a refusal is a row of a table, and the tests of an event are rows in an order.
+use Prim.Native.Nat.{ℕ}
+use mathlib.Core.Bool.{Bool, not}
+use mathlib.Core.List.{List, [], _∷_}
+use lib.Dec.{eqb}
+use Rattle.laws.specs.Choice.{pick, both}
+
+-- an answer, and whether it is called for
+pub record Row (A : Type 0) : Type 0 where
+  pub answer : A
+  pub holds : Bool
+
+abbrev pub row : {A : Type 0} → A → Bool → Row A
+row x t = record { answer = x; holds = t }
+
+-- the answer of the first row that is called for; done where none is
+abbrev pub first : {A : Type 0} → A → List (Row A) → A
+first done [] = done
+first done (r ∷ rs) = pick (r .holds) (r .answer) (first done rs)
+
+-- whether the row of number n is called for and no earlier one is; for 0, whether none is
+abbrev pub due : {A : Type 0} → (A → ℕ) → List (Row A) → ℕ → Bool
+due number [] n = eqb n 0
+due number (r ∷ rs) n = pick (eqb n (number (r .answer))) (r .holds) (both (not (r .holds)) (due number rs n))
