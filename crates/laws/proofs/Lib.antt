@@ -3,3 +3,4 @@ pub mod Table
 pub mod Refusals
 pub mod Outcome
 pub mod Keys
+pub mod Ints

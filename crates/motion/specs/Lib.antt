@@ -1,0 +1,2 @@
+pub mod Slope
+pub mod Detector
