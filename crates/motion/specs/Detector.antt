@@ -3,7 +3,7 @@ use Prim.Native.Nat.{ℕ, _+_, _*_, _%_, min}
 use mathlib.Core.Bool.{Bool, true, false, not}
 use lib.IntN.{ℤ, pos}
 use lib.Dec.{eqb, ltb, leb}
-use Rattle.laws.specs.Choice.{pick, both}
+use Rattle.laws.specs.Choice.{pick, both, either}
 use Rattle.laws.specs.Bits.{bit, worth}
 use Rattle.motion.specs.Slope.{slopeOf}
 use Rattle.motion.specs.declared.Motion.{Motion}
@@ -39,9 +39,9 @@ judged s x y z =
 -- "The first sample gives no point, nor does any sample while no axis is enabled"
 unfoldable pub pointOf : Settings → Motion → ℤ → ℤ → ℤ → Point
 pointOf s m x y z =
-    pick (both (m .known) (not (noAxis s)))
-    (judged s (slopeOf (m .x) x) (slopeOf (m .y) y) (slopeOf (m .z) z))
+    pick (either (not (m .known)) (noAxis s))
     None
+    (judged s (slopeOf (m .x) x) (slopeOf (m .y) y) (slopeOf (m .z) z))
 
 -- runs are counted as far as N
 abbrev pub longer : ℕ → ℕ → ℕ

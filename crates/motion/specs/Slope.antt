@@ -1,5 +1,4 @@
 -- 01, "Interrupts and pins", any-motion: "the difference of two signed samples in a row lies between -4095 and 4095; its size is the slope".
-use Prim.Native.Nat.{ℕ}
 use lib.IntN.{ℤ, pos, _-ℤ_, natAbs}
 use lib.Signed.{ltZ}
 use Rattle.motion.specs.declared.Slope.{Slope}

@@ -1,6 +1,5 @@
 // The any-motion detector of 01: slopes, points, runs, status and marks.
 ghost use mathlib.Core.Path.{_≡_};
-ghost use Prim.Native.Nat.{ℕ};
 ghost use Rattle.motion.specs.Slope.{slopeOf};
 ghost use Rattle.motion.specs.Detector.{quiet, pointsNeeded, overOn, noAxis, judged, pointOf, longer, afterOver, afterCalm, afterPoint, remembered, afterSample, restarted, forgotten, marksOf};
 use laws::bit;
