@@ -1,7 +1,6 @@
 -- 01, "Register table", 3E: what its bits mean.
-use Prim.Native.Nat.{ℕ, _*_, _/_, _%_, min, max}
+use Prim.Native.Nat.{ℕ, _/_, _%_, min, max}
 use mathlib.Core.Bool.{Bool, true, false}
-use mathlib.Core.List.{List, [], _∷_}
 use lib.Dec.{eqb}
 use Rattle.laws.specs.Choice.{pick}
 use Rattle.fifo.specs.declared.Drop.{Drop}

@@ -1,0 +1,5 @@
+pub mod Table
+pub mod Answers
+pub mod Codes
+pub mod Refused
+pub mod Effects

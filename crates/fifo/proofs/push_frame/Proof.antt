@@ -1,0 +1,51 @@
+-- `fifo::push_frame` meets its contract: the definition's tests are the code's, and each arm's bytes are what the callees leave.
+use Prim.Native.Nat.{_+_, _-_, _*_, _≤_}
+use native.Mathlib.Omega.{arith}
+use native.Mathlib.Nat.{mul-le-mul-right, one-mul}
+use denote.Ref.{now}
+use lib.ListN.{length}
+use borrow.Author.Needs.{needs}
+use borrow.Author.Tests.{lt-ltb, le-ltb}
+use Rattle.fifo.specs.Flat.{flatPushed}
+use Rattle.fifo.proofs.push_frame.Statement.{statement}
+use Rattle.fifo.proofs.push_frame.Tie as tie
+
+-- where there is room, the store has it for one frame more
+more : (b : tie.Then1) → let a = b .before .before .before .before .before .args in b .before .before .least .result * a .setting .size + a .setting .size ≤ length (now (a .s))
+more b =
+    let a = b .before .before .before .before .before .args in
+    let h : b .before .before .least .result + 1 ≤ a .most = omega arith in
+    omega (arith, mul-le-mul-right (a .setting .size) h)
+
+-- where the oldest is dropped, there is one
+some : (b : tie.After-enum-told2) → 1 ≤ b .before .before .before .before .least .result
+some b = omega (arith, b .before .before .before .before .before .before .before .pre .some (b .enum-told2 .given .1))
+
+last : (b : tie.After-enum-told2) → let a = b .before .before .before .before .before .before .before .args in (b .before .before .before .before .least .result - 1) * a .setting .size + a .setting .size ≤ length (now (a .s))
+last b =
+    let a = b .before .before .before .before .before .before .before .args in
+    let h : b .before .before .before .before .least .result - 1 + 1 ≤ a .most = omega (arith, some b) in
+    omega (arith, mul-le-mul-right (a .setting .size) h)
+
+pub push-frame-spec : {M : Type 1} → statement M
+unfolding flatPushed
+push-frame-spec =
+    tie.close
+    (tie.spec
+    (λ c κs. tt)
+    (λ c. omega (arith, more (c .before)))
+    (λ c κs. omega (arith, more (c .before)))
+    (λ c. search needs)
+    (λ c. search needs)
+    (λ c. rw (← c .before .before .before .before .before .before .least .ensures, lt-ltb _ _ (c .before .before .before .before .if1 .taken), c .before .before .put .ensures))
+    (λ c. search needs)
+    (λ c. search needs)
+    some
+    (λ c. omega (arith, last c))
+    (λ c κs. omega (arith, last (c .before)))
+    (λ c κs. omega (arith, last (c .before .before .before .before .before)))
+    (λ c. rw (← c .before .before .before .before .least .ensures, le-ltb _ _ (c .before .before .if1 .left), c .enum-told .given .1))
+    (λ c. search needs)
+    (λ c.
+    let b = c .before .before .before .before .before .before .before .before in
+    rw (← b .before .before .before .before .least .ensures, le-ltb _ _ (b .before .before .if1 .left), b .enum-told2 .given .1, c .before .before .put2 .ensures, c .before .before .before .before .before .before .move-forward .ensures, one-mul)))

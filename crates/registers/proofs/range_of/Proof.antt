@@ -1,0 +1,15 @@
+use borrow.Author.Tests.{ne-eqb}
+use Rattle.registers.specs.Codes.{rangeOf}
+use Rattle.registers.proofs.range_of.Statement.{statement}
+use Rattle.registers.proofs.range_of.Tie as tie
+
+pub range-of-spec : {M : Type 1} → statement M
+unfolding rangeOf
+range-of-spec =
+    tie.close
+    (tie.spec
+    (λ c. simp (c .match .keys1))
+    (λ c. simp (c .match .keys2))
+    (λ c. simp (c .match .keys3))
+    (λ c. simp (c .match .keys4))
+    (λ c. let r = c .match .rest in simp (ne-eqb _ _ (r .0 .0 .0 .1), ne-eqb _ _ (r .0 .0 .1), ne-eqb _ _ (r .0 .1), ne-eqb _ _ (r .1))))
