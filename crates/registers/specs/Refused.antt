@@ -9,6 +9,7 @@ use Rattle.laws.specs.Refusals.{Row, row, first}
 use Rattle.fifo.specs.Codes as fifo
 use Rattle.registers.specs.Table.{rowAt}
 use Rattle.registers.specs.Codes.{rangeOf, isReserved, latchOf, isModelled}
+use Rattle.registers.specs.declared.table.Row as table
 use Rattle.registers.specs.declared.Answer.{Answer}
 use Rattle.registers.specs.declared.Answer.the-variants.{Done, NoAddress, ReservedCode, NotModelled, BadLength, PastEnd}
 
@@ -26,16 +27,16 @@ reservedCode a b =
     (pick (eqb a 0x3E) (fifo.isReserved (fifo.modeOf b))
     false)
 
--- 3, "write of a setting not modelled here"
-unfoldable pub notModelled : ℕ → ℕ → Bool
-notModelled a b = pick (eqb a 0x21) (not (isModelled (latchOf b))) (not (eqb (bitAnd b (rowAt a .2)) 0))
+-- 3, "write of a setting not modelled here", at the address's row of the table
+unfoldable pub notModelled : table.Row → ℕ → ℕ → Bool
+notModelled r a b = pick (eqb a 0x21) (not (isModelled (latchOf b))) (not (eqb (bitAnd b (r .2)) 0))
 
 -- "A write tests 1, 2, 3"
-abbrev pub writeRows : ℕ → ℕ → List (Row Answer)
-writeRows a b =
+abbrev pub writeRows : table.Row → ℕ → ℕ → List (Row Answer)
+writeRows r a b =
     row NoAddress (ltb last a) ∷
     row ReservedCode (reservedCode a b) ∷
-    row NotModelled (notModelled a b) ∷ []
+    row NotModelled (notModelled r a b) ∷ []
 
 -- "a read tests 1, 5, 6"
 abbrev pub readRows : ℕ → ℕ → List (Row Answer)
@@ -44,8 +45,11 @@ readRows a n =
     row BadLength (either (eqb n 0) (ltb longestRead n)) ∷
     row PastEnd (both (ltb a last) (ltb last (a + n))) ∷ []
 
-unfoldable pub writeAnswer : ℕ → ℕ → Answer
-writeAnswer a b = first Done (writeRows a b)
+unfoldable pub answerAt : table.Row → ℕ → ℕ → Answer
+answerAt r a b = first Done (writeRows r a b)
+
+abbrev pub writeAnswer : ℕ → ℕ → Answer
+writeAnswer a b = answerAt (rowAt a) a b
 
 unfoldable pub readAnswer : ℕ → ℕ → Answer
 readAnswer a n = first Done (readRows a n)

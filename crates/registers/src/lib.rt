@@ -2,8 +2,8 @@
 ghost use mathlib.Core.Path.{_≡_};
 ghost use Rattle.registers.specs.Answers.{number, accepted};
 ghost use Rattle.registers.specs.Codes.{rangeOf, isReserved, latchOf, isModelled, isUnlatched};
-ghost use Rattle.registers.specs.Refused.{reservedCode, notModelled, writeAnswer, readAnswer};
-ghost use Rattle.registers.specs.Effects.{effectOf, effectWhen};
+ghost use Rattle.registers.specs.Refused.{reservedCode, notModelled, answerAt, readAnswer};
+ghost use Rattle.registers.specs.Effects.{effectAt, effectWhen, judgedAt, judged, stores, resets, empties};
 use fifo::is_reserved;
 use fifo::mode_of;
 use laws::bit;
@@ -57,6 +57,13 @@ pub enum Effect {
     Release,
     Empty,
     Reset,
+}
+
+// What the registers say of a write: its answer, what it does, and the byte that is stored where one is.
+pub struct Judged {
+    pub answer: Answer,
+    pub effect: Effect,
+    pub stored: u8,
 }
 
 pub fn number_of(answer: Answer) -> u8
@@ -146,7 +153,7 @@ pub fn is_unlatched(latch: Latch) -> bool
 }
 
 // Whether a write is of a code that the sheet reserves.
-pub fn is_reserved_code(address: u8, byte: u8) -> bool
+fn is_reserved_code(address: u8, byte: u8) -> bool
     ensures { λ r. ⌜ r ≡ reservedCode address byte ⌝ }
 {
     match address {
@@ -157,19 +164,18 @@ pub fn is_reserved_code(address: u8, byte: u8) -> bool
 }
 
 // Whether a write is of a setting that is not modelled.
-pub fn is_not_modelled(address: u8, byte: u8) -> bool
-    ensures { λ r. ⌜ r ≡ notModelled address byte ⌝ }
+fn is_not_modelled(row: Row, address: u8, byte: u8) -> bool
+    ensures { λ r. ⌜ r ≡ notModelled row address byte ⌝ }
 {
     if address == 0x21 {
         return !is_modelled(latch_of(byte));
     }
-    let row = row_at(address);
     byte & row.2 != 0
 }
 
 // What a write is answered.
-pub fn write_answer(address: u8, byte: u8) -> Answer
-    ensures { λ r. ⌜ r ≡ writeAnswer address byte ⌝ }
+fn write_answer(row: Row, address: u8, byte: u8) -> Answer
+    ensures { λ r. ⌜ r ≡ answerAt row address byte ⌝ }
 {
     if address as usize > LAST {
         return Answer::NoAddress;
@@ -177,7 +183,7 @@ pub fn write_answer(address: u8, byte: u8) -> Answer
     if is_reserved_code(address, byte) {
         return Answer::ReservedCode;
     }
-    if is_not_modelled(address, byte) {
+    if is_not_modelled(row, address, byte) {
         return Answer::NotModelled;
     }
     Answer::Done
@@ -206,8 +212,8 @@ pub fn read_answer(address: u8, count: usize) -> Answer
 }
 
 // What an accepted write does.
-pub fn effect_of(address: u8, byte: u8) -> Effect
-    ensures { λ r. ⌜ r ≡ effectOf address byte ⌝ }
+fn effect_of(row: Row, address: u8, byte: u8) -> Effect
+    ensures { λ r. ⌜ r ≡ effectAt row address byte ⌝ }
 {
     match address {
         0x0F => Effect::Forget,
@@ -231,7 +237,6 @@ pub fn effect_of(address: u8, byte: u8) -> Effect
         0x28 => Effect::Restart,
         0x3E => Effect::Empty,
         _ => {
-            let row = row_at(address);
             if row.1 == 0 {
                 Effect::Nothing
             } else {
@@ -242,12 +247,78 @@ pub fn effect_of(address: u8, byte: u8) -> Effect
 }
 
 // What a write does: nothing where it is refused.
-pub fn effect_when(accepted: bool, address: u8, byte: u8) -> Effect
-    ensures { λ r. ⌜ r ≡ effectWhen accepted address byte ⌝ }
+fn effect_when(accepted: bool, row: Row, address: u8, byte: u8) -> Effect
+    ensures { λ r. ⌜ r ≡ effectWhen accepted row address byte ⌝ }
 {
     if accepted {
-        effect_of(address, byte)
+        effect_of(row, address, byte)
     } else {
         Effect::Nothing
+    }
+}
+
+fn judge_at(row: Row, address: u8, byte: u8) -> Judged
+    ensures { λ r. ⌜ r ≡ judgedAt row address byte ⌝ }
+{
+    let answer = write_answer(row, address, byte);
+    let effect = effect_when(is_accepted(answer), row, address, byte);
+    Judged {
+        answer,
+        effect,
+        stored: merge(row, byte),
+    }
+}
+
+// What the registers say of a write.
+pub fn judge_write(address: u8, byte: u8) -> Judged
+    ensures { λ r. ⌜ r ≡ judged address byte ⌝ }
+{
+    judge_at(row_at(address), address, byte)
+}
+
+impl Effect {
+    // Whether the write's byte is stored.
+    pub fn stores(self) -> bool
+        ensures { λ r. ⌜ r ≡ stores self ⌝ }
+    {
+        match self {
+            Effect::Nothing => false,
+            Effect::Plain => true,
+            Effect::Forget => true,
+            Effect::Restart => true,
+            Effect::Release => true,
+            Effect::Empty => true,
+            Effect::Reset => false,
+        }
+    }
+
+    // Whether everything goes back to power-up.
+    pub fn resets(self) -> bool
+        ensures { λ r. ⌜ r ≡ resets self ⌝ }
+    {
+        match self {
+            Effect::Nothing => false,
+            Effect::Plain => false,
+            Effect::Forget => false,
+            Effect::Restart => false,
+            Effect::Release => false,
+            Effect::Empty => false,
+            Effect::Reset => true,
+        }
+    }
+
+    // Whether the FIFO is emptied and its overrun cleared.
+    pub fn empties(self) -> bool
+        ensures { λ r. ⌜ r ≡ empties self ⌝ }
+    {
+        match self {
+            Effect::Nothing => false,
+            Effect::Plain => false,
+            Effect::Forget => false,
+            Effect::Restart => false,
+            Effect::Release => false,
+            Effect::Empty => true,
+            Effect::Reset => true,
+        }
     }
 }

@@ -11,5 +11,4 @@ is-not-modelled-spec =
     (λ c κs. tt)
     (λ c κs. tt)
     (λ c. simp (eq-eqb _ _ (c .before .before .if1 .taken), ← c .before .latch-of .ensures, ← c .is-modelled .ensures))
-    (λ c κs. tt)
-    (λ c. simp (ne-eqb _ _ (c .before .before .if1 .left), ← c .before .row-at .ensures)))
+    (λ c. simp (ne-eqb _ _ (c .before .if1 .left))))

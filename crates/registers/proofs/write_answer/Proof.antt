@@ -1,10 +1,10 @@
 use borrow.Author.Tests.{lt-ltb, le-ltb}
-use Rattle.registers.specs.Refused.{writeAnswer}
+use Rattle.registers.specs.Refused.{answerAt}
 use Rattle.registers.proofs.write_answer.Statement.{statement}
 use Rattle.registers.proofs.write_answer.Tie as tie
 
 pub write-answer-spec : {M : Type 1} → statement M
-unfolding writeAnswer
+unfolding answerAt
 write-answer-spec =
     tie.close
     (tie.spec
