@@ -3,4 +3,5 @@ pub mod Table
 pub mod Refusals
 pub mod Outcome
 pub mod Keys
+pub mod Bits
 pub mod Ints
