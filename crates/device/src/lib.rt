@@ -114,10 +114,11 @@ impl Device {
                 let fifo = self.fifo;
                 self.fifo = fifo.readout(Device::DEPTH, axes_of(self.regs[0x3E]), buffer);
             } else {
+                let regs = self.regs;
                 let motion = self.motion;
                 let fifo = self.fifo;
                 let count = fifo.count(Device::DEPTH);
-                let statuses = statuses_of(&self.regs, count, self.ready, motion.is_set());
+                let statuses = statuses_of(&regs, count, self.ready, motion.is_set());
                 let shown = show(
                     statuses,
                     self.temperature,
@@ -125,8 +126,8 @@ impl Device {
                     fifo.status(Device::DEPTH),
                 );
                 let channels = self.channels;
-                let locks = !bit(self.regs[0x13], 6);
-                self.channels = burst(channels, locks, shown, &self.regs, address, buffer);
+                let locks = !bit(regs[0x13], 6);
+                self.channels = burst(channels, locks, shown, &regs, address, buffer);
             }
         }
         Answered {
@@ -151,7 +152,8 @@ impl Device {
             let fifo = self.fifo;
             self.fifo = fifo.push(Device::DEPTH, mode_of(control), axes, frame_of(axes, codes));
             let motion = self.motion;
-            let settings = settings_of(&self.regs);
+            let regs = self.regs;
+            let settings = settings_of(&regs);
             self.motion = motion.sample(settings, x, y, z);
         }
         Answered {
@@ -175,13 +177,14 @@ impl Device {
     pub fn pins(self) -> Pins
         ensures { λ r. ⌜ r ≡ pinsOf self ⌝ }
     {
+        let regs = self.regs;
         let motion = self.motion;
         let fifo = self.fifo;
         let count = fifo.count(Device::DEPTH);
-        let statuses = statuses_of(&self.regs, count, self.ready, motion.is_set());
+        let statuses = statuses_of(&regs, count, self.ready, motion.is_set());
         Pins {
-            int1: first_pin(statuses, &self.regs),
-            int2: second_pin(statuses, &self.regs),
+            int1: first_pin(statuses, &regs),
+            int2: second_pin(statuses, &regs),
         }
     }
 }

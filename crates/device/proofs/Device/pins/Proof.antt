@@ -12,4 +12,4 @@ pins-spec =
     (λ c κs. tt)
     (λ c κs. tt)
     (λ c κs. tt)
-    (λ c. simp (c .second-pin .ensures, c .before .before .before .first-pin .ensures, c .before .before .before .before .before .before .statuses-of .ensures, c .before .before .before .before .before .before .before .is-set .ensures, c .before .before .before .before .before .before .before .before .before .before .count .ensures)))
+    (λ c. simp (c .second-pin .ensures, c .before .before .first-pin .ensures, c .before .before .before .before .statuses-of .ensures, c .before .before .before .before .before .is-set .ensures, c .before .before .before .before .before .before .before .count .ensures)))

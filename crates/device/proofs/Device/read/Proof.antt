@@ -16,9 +16,11 @@ returns-2 : tie.Need-returns-2
 returns-2 c =
     let p = c .before .before in
     let f = p .burst .ensures in
-    burst-is _ _ _ _ (c .before .before .before .before .before .before .before .before .before .before .before .before .before .before .before .before .before .before .before .before .before .before .read-answer .ensures) (sym (c .before .before .before .before .before .before .before .before .before .before .before .before .before .before .before .before .before .before .before .before .before .is-accepted .ensures) ∙ c .before .before .before .before .before .before .before .before .before .before .before .before .before .before .before .before .before .before .before .before .if1 .taken) (ne-eqb _ _ (c .before .before .before .before .before .before .before .before .before .before .before .before .before .before .before .before .before .before .before .if2 .left)) _ _
-    (f .0 ∙ rw (c .before .before .before .before .before .before .bit .ensures))
-    (f .1 ∙ rw (c .before .before .before .before .before .before .bit .ensures, c .before .before .before .before .before .before .before .before .before .show .ensures, c .before .before .before .before .before .before .before .before .before .before .before .before .statuses-of .ensures, c .before .before .before .before .before .before .before .before .before .before .before .before .before .is-set .ensures, c .before .before .before .before .before .before .before .before .before .before .before .before .before .before .before .before .count .ensures, c .before .before .before .before .before .before .before .before .before .before .before .marks .ensures, c .before .before .before .before .before .before .before .before .before .before .status .ensures))
+    let q = c .before .before .before .before .before .before .before in
+    let s = q .before .before .before in
+    burst-is _ _ _ _ (c .before .before .before .before .before .before .before .before .before .before .before .before .before .before .before .before .before .before .before .before .read-answer .ensures) (sym (c .before .before .before .before .before .before .before .before .before .before .before .before .before .before .before .before .before .before .before .is-accepted .ensures) ∙ c .before .before .before .before .before .before .before .before .before .before .before .before .before .before .before .before .before .before .if1 .taken) (ne-eqb _ _ (c .before .before .before .before .before .before .before .before .before .before .before .before .before .before .before .before .before .if2 .left)) _ _
+    (f .0 ∙ rw (p .before .before .before .bit .ensures))
+    (f .1 ∙ rw (p .before .before .before .bit .ensures, q .show .ensures, s .statuses-of .ensures, s .before .is-set .ensures, s .before .before .before .count .ensures, q .before .before .marks .ensures, q .before .status .ensures))
 
 returns-3 : tie.Need-returns-3
 returns-3 c = read-refused _ _ _ _ (c .before .before .read-answer .ensures) (sym (c .before .is-accepted .ensures) ∙ c .if1 .left)
