@@ -1,3 +1,4 @@
 pub mod Parts
 pub mod Burst
 pub mod Events
+pub mod Refused

@@ -250,11 +250,10 @@ fn effect_of(row: Row, address: u8, byte: u8) -> Effect
 fn effect_when(accepted: bool, row: Row, address: u8, byte: u8) -> Effect
     ensures { λ r. ⌜ r ≡ effectWhen accepted row address byte ⌝ }
 {
-    if accepted {
-        effect_of(row, address, byte)
-    } else {
-        Effect::Nothing
+    if !accepted {
+        return Effect::Nothing;
     }
+    effect_of(row, address, byte)
 }
 
 fn judge_at(row: Row, address: u8, byte: u8) -> Judged

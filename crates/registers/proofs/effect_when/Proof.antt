@@ -1,3 +1,4 @@
+use borrow.Author.Tests.{not-true, not-false}
 use Rattle.registers.proofs.effect_when.Statement.{statement}
 use Rattle.registers.proofs.effect_when.Tie as tie
 
@@ -5,6 +6,6 @@ pub effect-when-spec : {M : Type 1} → statement M
 effect-when-spec =
     tie.close
     (tie.spec
+    (λ c. simp (not-true (c .before .args .accepted) (c .if1 .taken)))
     (λ c κs. tt)
-    (λ c. simp (c .before .if1 .taken, c .effect-of .ensures))
-    (λ c. simp (c .if1 .left)))
+    (λ c. simp (not-false (c .before .before .args .accepted) (c .before .if1 .left), c .effect-of .ensures)))
