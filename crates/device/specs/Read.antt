@@ -66,7 +66,14 @@ afterReadout d n = withFifo d (fifoOf (flatRead (within depth) (frameSize d) n (
 abbrev pub readout : Device → ℕ → List ℕ
 readout d n = bytesRead (within depth) (frameSize d) n (flatOf (d .fifo))
 
--- "The read length is the length of the lent buffer itself": a burst of n bytes from a on, and the buffer afterwards
+-- an accepted read of n bytes from a on: the device after it, and the bytes
+abbrev pub burstAfter : Device → ℕ → ℕ → Device
+burstAfter d a n = pick (eqb a last) (afterReadout d n) (after d a n)
+
+abbrev pub burstBytes : Device → ℕ → ℕ → List ℕ
+burstBytes d a n = pick (eqb a last) (readout d n) (given d a n)
+
+-- "The read length is the length of the lent buffer itself": a read of n bytes from a on, and the buffer after a read
 unfoldable pub readOf : Device → ℕ → ℕ → Answered
 readOf d a n = record {
   answer = readAnswer a n;
@@ -75,9 +82,7 @@ readOf d a n = record {
 
 unfoldable pub readBytes : Device → ℕ → List ℕ → List ℕ
 readBytes d a buffer =
-    pick (accepted (readAnswer a (length buffer)))
-    (pick (eqb a last) (readout d (length buffer)) (given d a (length buffer)))
-    buffer
+    pick (accepted (readAnswer a (length buffer))) (burstBytes d a (length buffer)) buffer
 
 -- ---- the same burst, over what it needs of the device
 unfoldable pub channelsAfter : Bool → Channels → ℕ → ℕ → Channels
