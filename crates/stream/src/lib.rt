@@ -1,0 +1,138 @@
+// Pumps a log from one descriptor through the replay to another. No contract can say what is read or written: this holds two
+// buffers and decides when to read and when to write; every byte of the text is the replay's.
+ghost use Prim.Native.Nat.{_≤_};
+ghost use lib.ListN.{length};
+use playback::Next;
+use playback::Replay;
+use playback::run;
+
+// The replay; the bytes of the input that are there and not used, from one place of the buffer up to another; whether the input
+// has ended; and whether the pump is done.
+struct State {
+    replay: Replay,
+    from: usize,
+    to: usize,
+    last: bool,
+    done: bool,
+}
+
+// Moves the bytes of a buffer between two places to its front, and answers how many they are.
+fn move_forward(buffer: &mut [u8], from: usize, to: usize) -> usize
+    ensures { λ r. ⌜ r ≤ to ⌝ }
+{
+    if buffer.len() < to {
+        return 0;
+    }
+    let mut i: usize = 0;
+    let mut at = from;
+    while at < to {
+        buffer[i] = buffer[at];
+        i += 1;
+        at += 1;
+    }
+    i
+}
+
+// More of the input behind what is left of it. At its end, what is left is the last part; where it cannot be read, the pump is
+// done, and the text goes no further.
+fn refill(input: i32, state: State, buffer: &mut [u8]) -> State {
+    let kept = move_forward(&mut *buffer, state.from, state.to);
+    let mut next = state;
+    next.from = 0;
+    next.to = kept;
+    if buffer.len() <= kept {
+        next.done = true;
+        return next;
+    }
+    let got = libc::read(input, &mut buffer[kept..]);
+    if got < 0 {
+        next.done = true;
+        return next;
+    }
+    let n = io::count(got, &buffer[kept..]);
+    next.last = n == 0;
+    next.to = kept + n;
+    next
+}
+
+fn is_wait(next: Next) -> bool {
+    match next {
+        Next::Go => false,
+        Next::Wait => true,
+        Next::Full => false,
+        Next::Stop => false,
+    }
+}
+
+fn is_stop(next: Next) -> bool {
+    match next {
+        Next::Go => false,
+        Next::Wait => false,
+        Next::Full => false,
+        Next::Stop => true,
+    }
+}
+
+// One run over what is there, and its text.
+fn turn(input: i32, output: i32, state: State, buffer: &mut [u8], text: &mut [u8]) -> State {
+    let from = state.from;
+    let to = state.to;
+    let mut next = state;
+    if to < from {
+        next.done = true;
+        return next;
+    }
+    if buffer.len() < to {
+        next.done = true;
+        return next;
+    }
+    let replay = state.replay;
+    let ran = run(replay, &buffer[from..to], state.last, &mut *text);
+    let after = ran.replay;
+    let why = ran.next;
+    let end = ran.to;
+    next.replay = after;
+    if text.len() < end {
+        next.done = true;
+        return next;
+    }
+    let written = io::write_all(output, &text[..end]);
+    if is_stop(why) {
+        next.done = true;
+        return next;
+    }
+    if !written {
+        next.done = true;
+        return next;
+    }
+    if to - from < ran.used {
+        next.done = true;
+        return next;
+    }
+    next.from = from + ran.used;
+    if is_wait(why) {
+        return refill(input, next, buffer);
+    }
+    next
+}
+
+// The replay of the log at one descriptor, printed to another.
+pub fn pump(input: i32, output: i32) {
+    let mut buffer = io::large_buffer();
+    let mut text = io::large_buffer();
+    let mut state = State {
+        replay: Replay::start(),
+        from: 0,
+        to: 0,
+        last: false,
+        done: false,
+    };
+    let mut turns = u64::MAX;
+    while 0 < turns {
+        state = turn(input, output, state, &mut buffer, &mut text);
+        if state.done {
+            return;
+        }
+        turns -= 1;
+    }
+}
