@@ -63,7 +63,7 @@ unfolding decimal
 length-decimal n = by-digits (λ k n l. length l ≤ k) (λ n. omega arith) (λ k n h. omega arith) (λ k n l h m. simp length-append (omega arith)) mostDigits n
 
 -- ---- hex
-pub length-hex : (bs : List ℕ) → length (hex bs) ≡ 2 * length bs
+length-hex : (bs : List ℕ) → length (hex bs) ≡ 2 * length bs
 length-hex [] = refl
 length-hex (b ∷ bs) = omega (arith, length-hex bs)
 

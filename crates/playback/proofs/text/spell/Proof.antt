@@ -1,4 +1,3 @@
--- The digits are written from the last to the first: those behind i stand there, and those of the rest are left.
 use Prim.Native.Nat.{ℕ, zero, suc, _+_, _-_, _/_, _%_, _≤_, _<_}
 use mathlib.Core.List.{List, [], _∷_, _++_, append-assoc, append-nil}
 use mathlib.Core.Path.{_≡_, refl, sym, ap, _∙_}
@@ -13,14 +12,10 @@ use Rattle.playback.proofs.Texts.{by-digits, put-none, put-before, push
 use Rattle.playback.proofs.text.spell.Statement.{statement}
 use Rattle.playback.proofs.text.spell.Tie as tie
 
--- k digits of n, zeros in front where it has fewer
+-- the last k digits of n, with zeros in front where it has fewer
 abbrev spelled : ℕ → ℕ → List ℕ
 spelled zero n = []
 spelled (suc k) n = spelled k (n / 10) ++ (digit (n % 10) ∷ [])
-
-length-spelled : (k n : ℕ) → length (spelled k n) ≡ k
-length-spelled zero n = refl
-length-spelled (suc k) n = simp length-append (omega (arith, length-spelled k (n / 10)))
 
 exactly : (n : ℕ) → decimal n ≡ spelled (length (decimal n)) n
 unfolding decimal
@@ -30,6 +25,7 @@ exactly n = by-digits (λ k n l. l ≡ spelled (length l) n)
     (λ k n l h e. rw (length-append l _, add-one, ← e))
     mostDigits n
 
+-- the digits are written from the last to the first: tail stands from at + i on, and i digits of the rest are left
 record Behind (out : List ℕ) (at n i rest : ℕ) (l : List ℕ) : Type 0 where
   tail : List ℕ
   whole : decimal n ≡ spelled i rest ++ tail
