@@ -2,36 +2,14 @@
 // A line is what an event gave: w, r or s with its number, and the bytes of an accepted read; p with both pins.
 use device::Device;
 use device::Level;
-use libc::STDOUT_FILENO;
 use registers::number_of;
-
-fn put(text: &[u8]) {
-    io::write_all(STDOUT_FILENO, text);
-}
-
-fn put_number(n: u8) {
-    io::print_decimal(STDOUT_FILENO, n as u64);
-}
-
-// Bytes in hexadecimal.
-fn put_bytes(bytes: &[u8]) {
-    let mut i: usize = 0;
-    while i < bytes.len() {
-        put_byte(bytes[i]);
-        i += 1;
-    }
-}
-
-fn put_byte(byte: u8) {
-    io::print_hex(STDOUT_FILENO, byte as u64, 2);
-}
 
 fn write(d: Device, address: u8, byte: u8) -> Device {
     let r = d.write(address, byte);
     let answer = r.answer;
-    put(b"w ");
-    put_number(number_of(answer));
-    put(b"\n");
+    show::text(b"w ");
+    show::number(number_of(answer) as u64);
+    show::text(b"\n");
     r.device
 }
 
@@ -39,11 +17,11 @@ fn write(d: Device, address: u8, byte: u8) -> Device {
 fn read(d: Device, address: u8, buffer: &mut [u8]) -> Device {
     let r = d.read(address, &mut *buffer);
     let answer = r.answer;
-    put(b"r ");
-    put_number(number_of(answer));
-    put(b" ");
-    put_bytes(&*buffer);
-    put(b"\n");
+    show::text(b"r ");
+    show::number(number_of(answer) as u64);
+    show::text(b" ");
+    show::bytes(&*buffer);
+    show::text(b"\n");
     r.device
 }
 
@@ -65,9 +43,9 @@ fn read8(d: Device, address: u8) -> Device {
 fn sample(d: Device, x: i16, y: i16, z: i16) -> Device {
     let r = d.sample(x, y, z, 0x17);
     let answer = r.answer;
-    put(b"s ");
-    put_number(number_of(answer));
-    put(b"\n");
+    show::text(b"s ");
+    show::number(number_of(answer) as u64);
+    show::text(b"\n");
     r.device
 }
 
@@ -90,17 +68,17 @@ fn samples(d: Device, n: u8) -> Device {
 fn start_cycle(d: Device) -> Device {
     let r = d.start_cycle();
     let answer = r.answer;
-    put(b"c ");
-    put_number(number_of(answer));
-    put(b"\n");
+    show::text(b"c ");
+    show::number(number_of(answer) as u64);
+    show::text(b"\n");
     r.device
 }
 
 fn put_level(level: Level) {
     match level {
-        Level::Low => put(b" 0"),
-        Level::High => put(b" 1"),
-        Level::Released => put(b" Z"),
+        Level::Low => show::text(b" 0"),
+        Level::High => show::text(b" 1"),
+        Level::Released => show::text(b" Z"),
     }
 }
 
@@ -108,15 +86,15 @@ fn pins(d: Device) -> Device {
     let p = d.pins();
     let one = p.int1;
     let two = p.int2;
-    put(b"p");
+    show::text(b"p");
     put_level(one);
     put_level(two);
-    put(b"\n");
+    show::text(b"\n");
     d
 }
 
 fn watermark() {
-    put(b"watermark\n");
+    show::text(b"watermark\n");
     let d = write(Device::power_up(), 0x17, 0x40);
     let d = write(d, 0x30, 0x02);
     let d = write(d, 0x3E, 0x40);
@@ -126,7 +104,7 @@ fn watermark() {
 }
 
 fn fifo_mode() {
-    put(b"FIFO mode\n");
+    show::text(b"FIFO mode\n");
     let d = write(Device::power_up(), 0x3E, 0x41);
     let d = read1(samples(d, 35), 0x0E);
     let d = read1(read8(d, 0x3F), 0x0E);
@@ -135,14 +113,14 @@ fn fifo_mode() {
 }
 
 fn stream_mode() {
-    put(b"STREAM mode\n");
+    show::text(b"STREAM mode\n");
     let d = write(Device::power_up(), 0x3E, 0x81);
     let d = read1(samples(d, 40), 0x0E);
     read1(read8(d, 0x3F), 0x0E);
 }
 
 fn bypass_mode() {
-    put(b"BYPASS mode\n");
+    show::text(b"BYPASS mode\n");
     let d = read1(sample(Device::power_up(), 100, -1, -2048), 0x0E);
     let d = read1(sample(d, 1, 2, 3), 0x0E);
     read1(read8(d, 0x3F), 0x0E);
@@ -150,7 +128,7 @@ fn bypass_mode() {
 
 // Two points on y, latched, then cleared by a write.
 fn latched_motion() {
-    put(b"any-motion, latched\n");
+    show::text(b"any-motion, latched\n");
     let d = write(Device::power_up(), 0x16, 0x07);
     let d = write(d, 0x28, 0x02);
     let d = write(d, 0x27, 0x01);
@@ -167,7 +145,7 @@ fn latched_motion() {
 
 // Two points on x, then two calm ones.
 fn unlatched_motion(d: Device) {
-    put(b"any-motion, non-latched\n");
+    show::text(b"any-motion, non-latched\n");
     let d = sample(sample(d, 0, 0, 0), 100, 0, 0);
     let d = read1(sample(d, -100, 0, 0), 0x0B);
     let d = read1(sample(d, -100, 0, 0), 0x09);
@@ -176,7 +154,7 @@ fn unlatched_motion(d: Device) {
 }
 
 fn data_pins() {
-    put(b"data and pins\n");
+    show::text(b"data and pins\n");
     let d = write(Device::power_up(), 0x17, 0x10);
     let d = write(d, 0x1A, 0x81);
     let d = pins(write(d, 0x20, 0x0B));
@@ -186,7 +164,7 @@ fn data_pins() {
 }
 
 fn locks() {
-    put(b"locks\n");
+    show::text(b"locks\n");
     let d = read1(sample(Device::power_up(), 291, 0, 0), 0x02);
     let d = sample(d, -1, 0, 0);
     let d = read1(read1(d, 0x03), 0x03);
@@ -194,7 +172,7 @@ fn locks() {
 }
 
 fn soft_reset() {
-    put(b"soft reset\n");
+    show::text(b"soft reset\n");
     let d = write(Device::power_up(), 0x3B, 0x5A);
     let d = write(d, 0x3C, 0xA5);
     let d = sample(write(d, 0x0F, 0x08), 1, 1, 1);
@@ -204,7 +182,7 @@ fn soft_reset() {
 }
 
 fn refusals() {
-    put(b"refusals\n");
+    show::text(b"refusals\n");
     let d = write(Device::power_up(), 0x0F, 0x04);
     let d = write(write(d, 0x3E, 0xC0), 0x21, 0x01);
     let d = write(write(d, 0x40, 0x00), 0x11, 0x80);
