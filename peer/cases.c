@@ -1,0 +1,584 @@
+/* Checks twin.c by calls and replay.c by running it, against the cases that the rules print and
+   the edges around them. Usage: cases [COMMAND], where COMMAND runs the replay program. */
+#include "twin.h"
+
+#include <stdarg.h>
+#include <stdio.h>
+#include <stdlib.h>
+#include <string.h>
+
+static int passed, failed;
+
+static void check(bool holds, const char *what, ...)
+{
+    va_list values;
+
+    if (holds) {
+        passed++;
+        return;
+    }
+    failed++;
+    va_start(values, what);
+    printf("failed: ");
+    vprintf(what, values);
+    printf("\n");
+    va_end(values);
+}
+
+/* ---- helpers on a twin ---- */
+
+static size_t from_hex(const char *hex, uint8_t *bytes)
+{
+    size_t length = 0;
+
+    for (; *hex != '\0'; hex++)
+        if (*hex != ' ') {
+            char two[3] = {hex[0], hex[1], '\0'};
+
+            bytes[length++] = (uint8_t)strtoul(two, NULL, 16);
+            hex++;
+        }
+    return length;
+}
+
+/* Whether a burst from the address gives these bytes. */
+static bool gives(struct twin *t, uint8_t address, const char *hex)
+{
+    uint8_t wanted[LONGEST_READ], got[LONGEST_READ];
+    size_t length = from_hex(hex, wanted);
+
+    return twin_read(t, address, got, length) == DONE && memcmp(wanted, got, length) == 0;
+}
+
+static enum answer reads(struct twin *t, uint8_t address, size_t length)
+{
+    uint8_t buffer[256];
+
+    return twin_read(t, address, buffer, length);
+}
+
+static enum answer sample_x(struct twin *t, int x)
+{
+    return twin_sample(t, x, 0, 0, 0);
+}
+
+/* A fresh twin with one register written. */
+static struct twin fresh(uint8_t address, uint8_t byte)
+{
+    struct twin t;
+
+    twin_power_up(&t);
+    twin_write(&t, address, byte);
+    return t;
+}
+
+static bool pins_are(const struct twin *t, enum level int1, enum level int2)
+{
+    struct pins pins = twin_pins(t);
+
+    return pins.int1 == int1 && pins.int2 == int2;
+}
+
+/* ---- both sides of each edge ---- */
+
+static void p1_to_p4(void)
+{
+    struct twin t;
+
+    twin_power_up(&t);
+    check(gives(&t, 0x00, "FA"), "P1 fresh 0x00 reads FA");
+    check(twin_write(&t, 0x00, 0x12) == 0 && gives(&t, 0x00, "FA"), "P1 after writing 12, FA");
+    check(twin_write(&t, 0x0F, 0xF5) == 0 && gives(&t, 0x0F, "05"), "P2 F5 reads back 05");
+    check(twin_write(&t, 0x0F, 0x04) == 2 && gives(&t, 0x0F, "05"), "P2 04 gives 2, 05 remains");
+    check(reads(&t, 0x3E, 1) == 0, "P3 0x3E length 1 is 0");
+    check(reads(&t, 0x3E, 2) == 6, "P3 0x3E length 2 is 6");
+    check(reads(&t, 0x40, 0) == 1, "P3 0x40 length 0 is 1");
+    check(reads(&t, 0x3F, 193) == 5, "P3 0x3F length 193 is 5");
+    check(sample_x(&t, 2047) == 0, "P4 2047 accepted");
+    check(sample_x(&t, 2048) == 4, "P4 2048 gives 4");
+    check(gives(&t, 0x3F, "F17F01000100"), "P4 2047 is the only frame");
+    check(sample_x(&t, -2049) == 4, "P4 -2049 gives 4");
+    check(sample_x(&t, -2048) == 0 && gives(&t, 0x3F, "0180"), "P4 -2048 stored as 01 80");
+}
+
+static void p5_to_p7(void)
+{
+    struct twin t = fresh(0x3E, 0x40);
+
+    for (int i = 1; i <= 32; i++)
+        sample_x(&t, 16 * i);
+    check(gives(&t, 0x0E, "20"), "P5 32 samples: 20");
+    sample_x(&t, 16 * 33);
+    check(gives(&t, 0x0E, "A0"), "P5 one more: A0");
+    check(gives(&t, 0x3F, "010101000100"), "P5 first frame the first sample");
+    t = fresh(0x3E, 0x80);
+    for (int i = 1; i <= 33; i++)
+        sample_x(&t, 16 * i);
+    check(gives(&t, 0x0E, "A0"), "P6 33 samples: A0");
+    check(gives(&t, 0x3F, "010201000100"), "P6 first frame the second sample");
+    t = fresh(0x3E, 0x40);
+    sample_x(&t, 1);
+    sample_x(&t, 2);
+    check(reads(&t, 0x3F, 1) == 0 && gives(&t, 0x0E, "01"), "P7 reading 1 byte leaves 1");
+    sample_x(&t, 3);
+    check(gives(&t, 0x3F, "21000100010031") && gives(&t, 0x0E, "00"), "P7 7 from two leaves 0");
+}
+
+static void p8_to_p10(void)
+{
+    struct twin t;
+
+    twin_power_up(&t);
+    sample_x(&t, 291);
+    check(gives(&t, 0x02, "31"), "P8 0x02 gives 31");
+    sample_x(&t, -1);
+    check(gives(&t, 0x03, "12") && gives(&t, 0x03, "FF"), "P8 0x03 gives 12, then FF");
+    t = fresh(0x16, 0x01);
+    twin_write(&t, 0x28, 0x01);
+    twin_write(&t, 0x27, 0x00);
+    sample_x(&t, 0);
+    sample_x(&t, 4);
+    check(gives(&t, 0x09, "000000"), "P9 not set at 4");
+    sample_x(&t, 9);
+    check(gives(&t, 0x09, "040001"), "P9 set at 9, 0x0B is 01");
+    t = fresh(0x16, 0x01);
+    twin_write(&t, 0x28, 0x01);
+    sample_x(&t, 0);
+    sample_x(&t, -5);
+    check(gives(&t, 0x09, "040009"), "P9 afresh 0, -5: 0x0B is 09");
+    check(twin_write(&t, 0x21, 0x01) == 3 && gives(&t, 0x21, "00"), "P10 0x21=01 gives 3");
+    check(gives(&t, 0x09, "04"), "P10 the refused write cleared nothing");
+    check(twin_write(&t, 0x21, 0x07) == 0 && gives(&t, 0x21, "07"), "P10 07 gives 0");
+}
+
+static void watermark(void)
+{
+    struct twin t = fresh(0x17, 0x40);
+
+    twin_write(&t, 0x30, 2);
+    twin_write(&t, 0x3E, 0x40);
+    sample_x(&t, 0);
+    check(gives(&t, 0x0A, "00"), "watermark 2, one frame: 0");
+    sample_x(&t, 0);
+    check(gives(&t, 0x0A, "40"), "watermark 2, two frames: 1");
+    sample_x(&t, 0);
+    check(gives(&t, 0x0A, "00"), "watermark 2, three frames: 0");
+}
+
+/* ---- the register table, in the words of the rules ---- */
+
+static const char table[] =
+    "00:FA/00 01:FF/00 02:00/00 03:00/00 04:00/00 05:00/00 06:00/00 07:00/00 08:00/00 09:00/00 "
+    "0A:00/00 0B:00/00 0C:00/00 0D:FF/00 0E:00/00 0F:03/0F 10:0F/1F 11:00/FE 12:00/60 13:00/C0 "
+    "14:00/00 15:FF/00 16:00/F7 17:00/7F 18:00/0F 19:00/FF 1A:00/E7 1B:00/FF 1C:FF/00 1D:FF/00 "
+    "1E:00/3F 1F:FF/00 20:05/0F 21:00/0F 22:09/FF 23:30/FF 24:81/C7 25:0F/FF 26:C0/FF 27:00/FF "
+    "28:14/FF 29:14/FF 2A:04/C7 2B:0A/DF 2C:18/7F 2D:48/7F 2E:08/3F 2F:11/37 30:00/3F 31:FF/00 "
+    "32:00/07 33:F4/00 34:00/07 35:FF/00 36:10/00 37:00/7F 38:00/FF 39:00/FF 3A:00/FF 3B:00/FF "
+    "3C:00/FF 3D:FF/00 3E:00/C3";
+
+static const char refused_3[] = "11:E0 16:F0 17:0F 18:07 32:03 33:0B 36:E7 38:FF 39:FF 3A:FF";
+
+static enum answer expected_answer(unsigned address, unsigned byte)
+{
+    unsigned of, bits;
+    int taken;
+
+    if (address == 0x0F)
+        return strchr("358C", "0123456789ABCDEF"[byte & 15]) ? 0 : 2;
+    if (address == 0x3E)
+        return byte < 0xC0 ? 0 : 2;
+    if (address == 0x21)
+        return strchr("087F", "0123456789ABCDEF"[byte & 15]) ? 0 : 3;
+    for (const char *p = refused_3; sscanf(p, "%x:%x%n", &of, &bits, &taken) == 2; p += taken)
+        if (of == address && byte & bits)
+            return 3;
+    return 0;
+}
+
+static bool row_holds(unsigned address, unsigned reset, unsigned mask)
+{
+    for (unsigned byte = 0; byte < 256; byte++) {
+        struct twin t;
+        uint8_t got;
+        enum answer wanted = expected_answer(address, byte);
+        unsigned after = wanted ? reset : (reset & ~mask) | (byte & mask);
+
+        twin_power_up(&t);
+        twin_read(&t, (uint8_t)address, &got, 1);
+        if (got != reset || twin_write(&t, (uint8_t)address, (uint8_t)byte) != wanted)
+            return false;
+        twin_read(&t, (uint8_t)address, &got, 1);
+        if (got != after)
+            return false;
+    }
+    return true;
+}
+
+static void register_table(void)
+{
+    unsigned address, reset, mask;
+    int taken;
+
+    for (const char *p = table; sscanf(p, "%x:%x/%x%n", &address, &reset, &mask, &taken) == 3;
+         p += taken)
+        check(row_holds(address, reset, mask), "register row %02X", address);
+}
+
+/* ---- further edges ---- */
+
+static void refusals_change_nothing(void)
+{
+    struct twin t = fresh(0x3E, 0x40), before;
+    uint8_t buffer[256], untouched[256];
+
+    memset(buffer, 0x5A, sizeof buffer);
+    memset(untouched, 0x5A, sizeof untouched);
+    twin_sample(&t, 1, 2, 3, 4);
+    before = t;
+    check(twin_read(&t, 0x40, buffer, 1) == 1, "read at 0x40 is 1");
+    check(twin_read(&t, 0xFF, buffer, 255) == 1, "read at 0xFF is 1");
+    check(twin_read(&t, 0x00, buffer, 0) == 5, "length 0 is 5");
+    check(twin_read(&t, 0x00, buffer, 193) == 5, "length 193 at 0x00 is 5");
+    check(twin_read(&t, 0x3F, buffer, 255) == 5, "length 255 at 0x3F is 5");
+    check(twin_read(&t, 0x00, buffer, 64) == 6, "length 64 at 0x00 is 6");
+    check(twin_write(&t, 0x40, 0) == 1, "write at 0x40 is 1");
+    check(twin_write(&t, 0x3E, 0xC0) == 2, "3E=C0 is 2");
+    check(twin_sample(&t, 0, 2048, 0, 0) == 4, "y 2048 is 4");
+    check(twin_sample(&t, 0, 0, -2049, 0) == 4, "z -2049 is 4");
+    check(memcmp(&t, &before, sizeof t) == 0, "refusals leave the twin as it was");
+    check(memcmp(buffer, untouched, sizeof buffer) == 0, "refusals leave the buffer as it was");
+    check(twin_read(&t, 0x00, buffer, 63) == 0, "length 63 at 0x00 is 0");
+    check(twin_read(&t, 0x3F, buffer, 192) == 0, "length 192 at 0x3F is 0");
+}
+
+static void locks(void)
+{
+    struct twin t;
+
+    twin_power_up(&t);
+    check(gives(&t, 0x02, "00"), "fresh 0x02 is 00, and locks");
+    sample_x(&t, 291);
+    check(gives(&t, 0x03, "00") && gives(&t, 0x03, "12"), "locked to 0 before any sample");
+    check(gives(&t, 0x02, "31") && gives(&t, 0x02, "30"), "new-data bit falls after the read");
+    sample_x(&t, -1);
+    check(gives(&t, 0x02, "F1"), "the LSB shows the present sample");
+    check(gives(&t, 0x03, "FF"), "reading the LSB again locks anew");
+    check(gives(&t, 0x02, "F0"), "reading the MSB leaves new-data alone");
+    sample_x(&t, 0);
+    twin_write(&t, 0x13, 0x80);
+    check(gives(&t, 0x03, "FF"), "0x13 with bit 6 at 0 keeps the lock");
+    check(gives(&t, 0x02, "01"), "locked once more");
+    sample_x(&t, -1);
+    twin_write(&t, 0x13, 0x40);
+    check(gives(&t, 0x03, "FF"), "0x13 with bit 6 at 1 releases the lock");
+    check(gives(&t, 0x02, "F1"), "LSB with shadow off");
+    sample_x(&t, 0);
+    check(gives(&t, 0x03, "00"), "no lock with shadow off");
+}
+
+static void fifo(void)
+{
+    struct twin t;
+
+    twin_power_up(&t);
+    sample_x(&t, 1);
+    check(gives(&t, 0x0E, "01"), "BYPASS holds one");
+    sample_x(&t, 2);
+    check(gives(&t, 0x0E, "81"), "BYPASS overrun at the second");
+    check(gives(&t, 0x3F, "21000100010000"), "BYPASS gives the newer, then zero");
+    check(gives(&t, 0x0E, "80"), "draining keeps overrun");
+    check(twin_write(&t, 0x3E, 0x82) == 0 && gives(&t, 0x0E, "00"), "3E clears overrun");
+    twin_sample(&t, 1, -2, 3, 0);
+    check(gives(&t, 0x3F, "E1FF00"), "y alone");
+    twin_write(&t, 0x3E, 0x83);
+    twin_sample(&t, 1, -2, 3, 0);
+    check(gives(&t, 0x3F, "3100"), "z alone");
+    twin_write(&t, 0x3E, 0x3D);
+    twin_sample(&t, 1, -2, 3, 0);
+    check(gives(&t, 0x3E, "01") && gives(&t, 0x3F, "110000"), "x alone");
+    twin_sample(&t, 1, -2, 3, 0);
+    check(twin_write(&t, 0x3E, 0xC1) == 2 && gives(&t, 0x0E, "01"), "refused 3E empties nothing");
+    check(twin_write(&t, 0x30, 5) == 0 && gives(&t, 0x0E, "01"), "0x30 empties nothing");
+    check(twin_write(&t, 0x3E, 0x01) == 0 && gives(&t, 0x0E, "00"), "the same byte empties");
+}
+
+/* N = 2, threshold 4 on y and z. */
+static void runs(void)
+{
+    struct twin t = fresh(0x16, 0x06);
+
+    twin_write(&t, 0x28, 1);
+    twin_write(&t, 0x27, 0x01);
+    twin_sample(&t, 0, 0, 0, 0);
+    twin_sample(&t, 2047, 5, 0, 0);
+    check(gives(&t, 0x09, "000000"), "one over point of two");
+    twin_sample(&t, -2048, 5, -5, 0);
+    check(gives(&t, 0x09, "04000C"), "set at the second, z marked, negative");
+    twin_sample(&t, 2047, 10, -5, 0);
+    check(gives(&t, 0x09, "04000C"), "not set again");
+    twin_sample(&t, -2048, 10, -5, 0);
+    check(gives(&t, 0x09, "04"), "one calm point of two; x is not enabled");
+    twin_sample(&t, -2048, 10, -5, 0);
+    check(gives(&t, 0x09, "000008"), "cleared at the second, sign stays");
+    twin_sample(&t, 0, 20, 5, 0);
+    twin_sample(&t, 0, 30, 15, 0);
+    check(gives(&t, 0x09, "040002"), "y before z, positive");
+    check(twin_write(&t, 0x16, 0x16) == 3 && gives(&t, 0x09, "04"), "refused 16 clears nothing");
+    check(twin_write(&t, 0x21, 0x87) == 0 && gives(&t, 0x09, "000000"), "0x21 clears");
+    twin_sample(&t, 0, 20, 15, 0);
+    twin_sample(&t, 0, 10, 15, 0);
+    for (int i = 0; i < 4; i++)
+        twin_sample(&t, 0, 10, 15, 0);
+    check(gives(&t, 0x09, "04000A"), "latched stays");
+    check(twin_write(&t, 0x28, 0) == 0 && gives(&t, 0x09, "000008"), "0x28 clears all but sign");
+}
+
+static void previous_sample(void)
+{
+    struct twin t;
+
+    twin_power_up(&t);
+    sample_x(&t, -2048);
+    check(twin_write(&t, 0x28, 0xFF) == 0 && twin_write(&t, 0x16, 0x01) == 0, "setup");
+    sample_x(&t, 2047);
+    check(gives(&t, 0x09, "040001"), "the sample before enabling is remembered");
+    twin_write(&t, 0x0F, 0x03);
+    check(gives(&t, 0x09, "000000"), "0x0F clears");
+    sample_x(&t, -2048);
+    check(gives(&t, 0x09, "000000"), "0x0F forgets the previous sample");
+    sample_x(&t, -1028);
+    check(gives(&t, 0x09, "00"), "slope 1020 is calm at FF");
+    sample_x(&t, -2048);
+    sample_x(&t, -1027);
+    check(gives(&t, 0x09, "040001"), "slope 1021 is over at FF");
+}
+
+static void soft_reset(void)
+{
+    struct twin t = fresh(0x3B, 0xAB), wanted;
+
+    twin_write(&t, 0x3C, 0xCD);
+    wanted = t;
+    twin_write(&t, 0x16, 0x01);
+    twin_write(&t, 0x28, 0x00);
+    twin_sample(&t, 1, 2, 3, 4);
+    twin_sample(&t, 0, 2, 3, 4);
+    check(reads(&t, 0x02, 1) == 0, "read that locks");
+    check(twin_write(&t, 0x14, 0xB5) == 0 && gives(&t, 0x0E, "81"), "B5 is ignored");
+    check(twin_write(&t, 0x14, 0xB6) == 0, "B6 is 0");
+    check(memcmp(&t, &wanted, sizeof t) == 0, "all as at power-up but 0x3B and 0x3C");
+}
+
+static void data_and_full(void)
+{
+    struct twin t;
+
+    twin_power_up(&t);
+    sample_x(&t, 0);
+    check(gives(&t, 0x0A, "00"), "no status without its enable bit");
+    twin_write(&t, 0x17, 0x30);
+    check(gives(&t, 0x0A, "A0"), "data and full show at once");
+    check(twin_cycle_start(&t) == 0 && gives(&t, 0x0A, "20"), "cycle start ends data");
+    check(sample_x(&t, 2048) == 4 && gives(&t, 0x0A, "20"), "a refused sample is no data");
+    check(sample_x(&t, 1) == 0 && gives(&t, 0x0A, "A0"), "an accepted one is");
+}
+
+static void pins(void)
+{
+    struct twin t;
+
+    twin_power_up(&t);
+    check(pins_are(&t, LOW, LOW), "fresh pins are low");
+    twin_write(&t, 0x20, 0x00);
+    check(pins_are(&t, HIGH, HIGH), "inactive at active level 0 is high");
+    twin_write(&t, 0x20, 0x0E);
+    check(pins_are(&t, RELEASED, RELEASED), "inactive in open-drive is released");
+    twin_write(&t, 0x17, 0x30);
+    sample_x(&t, 0);
+    check(pins_are(&t, RELEASED, RELEASED), "unmapped");
+    twin_write(&t, 0x1A, 0x81);
+    check(pins_are(&t, LOW, HIGH), "data on both, open-drive, active levels 0 and 1");
+    twin_cycle_start(&t);
+    check(pins_are(&t, RELEASED, RELEASED), "no data after the cycle start");
+    twin_write(&t, 0x1A, 0x04);
+    check(pins_are(&t, LOW, RELEASED), "full on INT1");
+    twin_write(&t, 0x1A, 0x20);
+    check(pins_are(&t, RELEASED, HIGH), "full on INT2");
+    twin_write(&t, 0x17, 0x40);
+    twin_write(&t, 0x30, 0x01);
+    twin_write(&t, 0x1A, 0x02);
+    check(pins_are(&t, LOW, RELEASED), "watermark on INT1");
+    twin_write(&t, 0x1A, 0x40);
+    check(pins_are(&t, RELEASED, HIGH), "watermark on INT2");
+    twin_write(&t, 0x1A, 0x00);
+    twin_write(&t, 0x16, 0x01);
+    sample_x(&t, 100);
+    twin_write(&t, 0x19, 0x04);
+    check(pins_are(&t, LOW, RELEASED), "any-motion on INT1");
+    twin_write(&t, 0x19, 0xFB);
+    twin_write(&t, 0x1B, 0x04);
+    check(pins_are(&t, RELEASED, HIGH), "any-motion on INT2");
+}
+
+/* ---- replay ---- */
+
+static const char *command = "./replay";
+
+/* Runs the replay program on case.log, with input in one-byte pieces where slow is true. */
+static bool replay_gives(bool slow, const char *wanted)
+{
+    char line[256], got[4096];
+    size_t length;
+    FILE *out;
+
+    snprintf(line, sizeof line, "%s%s%s >case.out", slow ? "dd bs=1 if=case.log 2>&- | " : "",
+             command, slow ? "" : " <case.log");
+    if (system(line) != 0 || (out = fopen("case.out", "rb")) == NULL)
+        return false;
+    length = fread(got, 1, sizeof got, out);
+    fclose(out);
+    return length == strlen(wanted) && memcmp(got, wanted, length) == 0;
+}
+
+static void write_log(const uint8_t *log, size_t length)
+{
+    FILE *file = fopen("case.log", "wb");
+
+    if (file == NULL || fwrite(log, 1, length, file) != length || fclose(file) != 0) {
+        perror("case.log");
+        exit(2);
+    }
+}
+
+static void replay(const char *hex, const char *wanted)
+{
+    uint8_t log[256];
+
+    write_log(log, from_hex(hex, log));
+    check(replay_gives(false, wanted), "%s", hex);
+}
+
+static const char printed[] =
+    "01 00 03 01 3E 40 00 08 03 00 10 FF F0 04 00 05 00 03 02 3F 06";
+
+static void printed_log(void)
+{
+    static const char wanted[] = "1 0\n2 0\n3 0 010101FF0140\npins 0 0\n";
+
+    replay(printed, wanted);
+    check(replay_gives(true, wanted), "the printed log, byte by byte");
+}
+
+static void cut_everywhere(void)
+{
+    static const char *const lines[] = {"1 0\n", "2 0\n", "3 0 010101FF0140\n"};
+    static const size_t ends[] = {1, 6, 16, 21};
+    uint8_t log[64];
+    size_t length = from_hex(printed, log);
+
+    for (size_t cut = 0; cut <= length; cut++) {
+        char wanted[128] = "";
+        bool boundary = false;
+        int whole = 0;
+
+        for (int i = 0; i < 4; i++)
+            if (cut == ends[i])
+                boundary = true;
+        for (; whole < 3 && cut >= ends[whole + 1]; whole++)
+            strcat(wanted, lines[whole]);
+        if (!boundary)
+            sprintf(wanted + strlen(wanted), "%d 9\n", cut == 0 ? 0 : whole + 1);
+        strcat(wanted, "pins 0 0\n");
+        write_log(log, cut);
+        check(replay_gives(false, wanted), "printed log cut at %d", (int)cut);
+    }
+}
+
+static void stops(void)
+{
+    replay("02 00 01 04", "0 7\npins 0 0\n");
+    replay("00", "0 7\npins 0 0\n");
+    replay("01 00 00 00 01 04", "1 8\npins 0 0\n");
+    replay("01 00 01 04 00 09", "1 0\n2 8\npins 0 0\n");
+    replay("01 FF FF 04", "1 8\npins 0 0\n");
+    replay("01 01 03 01 3E 40", "1 8\npins 0 0\n");
+    replay("01 00 08 05 00", "1 9\npins 0 0\n");
+    replay("01 00 01 05", "1 8\npins 0 0\n");
+    replay("01 00 01 00 00 01 04", "1 8\npins 0 0\n");
+    replay("01 00 02 04 00", "1 8\npins 0 0\n");
+    replay("01 00 03 03 00 00", "1 8\npins 0 0\n");
+    replay("01 00 08 01 00 00 00 00 00 00 00", "1 8\npins 0 0\n");
+    replay("01 00 01 02", "1 8\npins 0 0\n");
+    replay("01 00 03 01 20 0E 00 00", "1 0\n2 8\npins Z Z\n");
+}
+
+static void refusals_go_on(void)
+{
+    replay("01 00 03 01 40 00 00 03 01 0F 04 00 03 01 21 01 00 08 03 08 00 00 00 00 00 00"
+           "00 03 02 3F 00 00 03 02 3F C1 00 03 02 3E 02 00 03 02 40 00 00 01 04 00 03 02 00 01",
+           "1 1\n2 2\n3 3\n4 4\n5 5\n6 5\n7 6\n8 1\n9 0\n10 0 FA\npins 0 0\n");
+    replay("01 00 08 03 F8 00 07 FF FF FF 80 00 03 02 02 07",
+           "1 0\n2 0 0180F17FF1FF80\npins 0 0\n");
+    replay("01 00 08 03 F7 FF 00 00 00 00 00 00 08 03 80 00 00 00 00 00 00 00 03 02 00 00",
+           "1 4\n2 4\n3 5\npins 0 0\n");
+}
+
+/* Logs of cycle starts that end around the size of a block; the last line but one tells. */
+static void blocks(void)
+{
+    static uint8_t log[3 * 65536];
+    char line[160];
+
+    for (size_t length = 65530; length <= 65542; length++) {
+        size_t records = (length - 1) / 3, rest = (length - 1) % 3;
+
+        log[0] = 1;
+        for (size_t i = 1; i < sizeof log; i++)
+            log[i] = "\0\1\4"[(i - 1) % 3];
+        write_log(log, length);
+        snprintf(line, sizeof line,
+                 "test \"$(%s <case.log | tail -n 2 | tr '\\n' ' ')\" = '%d %d pins 0 0 '", command,
+                 (int)(rest ? records + 1 : records), rest ? 9 : 0);
+        check(system(line) == 0, "log of %d bytes", (int)length);
+    }
+}
+
+static void failing_files(void)
+{
+    char line[96];
+
+    write_log((const uint8_t *)"\1", 1);
+    snprintf(line, sizeof line, "%s <case.log 2>&- >/dev/full", command);
+    check(system(line) != 0, "a full disk is not a stop");
+    snprintf(line, sizeof line, "%s <. 2>&- >case.out", command);
+    check(system(line) != 0, "an input that can't be read is not a stop");
+}
+
+int main(int count, char **argument)
+{
+    if (count > 1)
+        command = argument[1];
+    p1_to_p4();
+    p5_to_p7();
+    p8_to_p10();
+    watermark();
+    register_table();
+    refusals_change_nothing();
+    locks();
+    fifo();
+    runs();
+    previous_sample();
+    soft_reset();
+    data_and_full();
+    pins();
+    printed_log();
+    cut_everywhere();
+    stops();
+    refusals_go_on();
+    blocks();
+    failing_files();
+    remove("case.log");
+    remove("case.out");
+    printf("%d passed, %d failed\n", passed, failed);
+    return failed ? 1 : 0;
+}

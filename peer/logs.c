@@ -1,0 +1,762 @@
+/* Makes bench logs, the same for the same arguments on every machine.
+
+   logs SEED RECORDS    one log of at most RECORDS records, biased to the edges of the rules; about
+                        one seed in four gives a damaged log
+   logs --big MEGABYTES one long log without damage, with a mix as on a bench, for timing
+
+   Random draws never share an expression with each other: C leaves their order open there. */
+#include <inttypes.h>
+#include <stdbool.h>
+#include <stdint.h>
+#include <stdio.h>
+#include <stdlib.h>
+#include <string.h>
+
+enum { X, Y, Z, AXES };
+
+enum damage {
+    NO_DAMAGE,
+    VERSION,
+    EMPTY,
+    CUT,
+    WRONG_LENGTH,
+    UNKNOWN_KIND,
+    UNFIT_KIND,
+    GARBAGE,
+    ONLY_GARBAGE,
+    DAMAGES
+};
+
+struct log {
+    uint64_t state;     /* of the generator */
+    uint64_t left;      /* records that may still be written */
+    uint64_t undamaged; /* records before the damage */
+    enum damage damage;
+    bool ended;         /* nothing more is written */
+    uint64_t bytes;     /* written so far */
+};
+
+/* ---- draws ---- */
+
+static uint64_t draw(struct log *l) /* splitmix64 */
+{
+    uint64_t z = l->state += UINT64_C(0x9E3779B97F4A7C15);
+
+    z = (z ^ z >> 30) * UINT64_C(0xBF58476D1CE4E5B9);
+    z = (z ^ z >> 27) * UINT64_C(0x94D049BB133111EB);
+    return z ^ z >> 31;
+}
+
+static int below(struct log *l, int limit)
+{
+    return (int)(draw(l) % (uint64_t)limit);
+}
+
+static bool one_in(struct log *l, int n)
+{
+    return below(l, n) == 0;
+}
+
+static int pick(struct log *l, const int *from, size_t size)
+{
+    return from[draw(l) % (size / sizeof *from)];
+}
+
+#define PICK(l, ...) pick(l, (const int[]){__VA_ARGS__}, sizeof(const int[]){__VA_ARGS__})
+
+/* ---- records ---- */
+
+static void put_byte(struct log *l, int byte)
+{
+    if (l->ended)
+        return;
+    putchar(byte & 0xFF);
+    l->bytes++;
+}
+
+static void put_length(struct log *l, int length)
+{
+    put_byte(l, length >> 8);
+    put_byte(l, length);
+}
+
+static void put_garbage(struct log *l, int length)
+{
+    while (length-- > 0) {
+        int byte = below(l, 256);
+
+        put_byte(l, byte);
+    }
+}
+
+static void put_sound(struct log *l, const uint8_t *body, int length)
+{
+    put_length(l, length);
+    for (int i = 0; i < length; i++)
+        put_byte(l, body[i]);
+}
+
+/* Writes the first bytes of a record and ends the log; at 0 it ends at a record boundary. */
+static void put_cut(struct log *l, int length, int kind)
+{
+    int written = below(l, 2 + length);
+
+    for (int i = 0; i < written; i++)
+        put_byte(l, i == 0 ? length >> 8 : i == 1 ? length : i == 2 ? kind : i);
+    l->ended = true;
+}
+
+static void put_wrong_length(struct log *l)
+{
+    int length = PICK(l, 0, 0, 9, 9, 9, 65535, 65535, 10, 255, 256, 259, 264, 0x0300, 0x0800);
+
+    put_length(l, length);
+    length = below(l, 12);
+    put_garbage(l, length);
+    l->ended = !one_in(l, 4);
+}
+
+static void put_unknown_kind(struct log *l)
+{
+    int kind = PICK(l, 0, 5, 6, 7, 128, 129, 130, 131, 132, 255);
+    int length = PICK(l, 1, 3, 8, 2, 4, 5, 6, 7);
+
+    if (one_in(l, 4)) {
+        put_cut(l, length, kind);
+        return;
+    }
+    put_length(l, length);
+    put_byte(l, kind);
+    put_garbage(l, length - 1);
+}
+
+static void put_unfit_kind(struct log *l)
+{
+    static const int fit[] = {0, 3, 3, 8, 1};
+    int kind = 1 + below(l, 4);
+    int length = PICK(l, 1, 1, 3, 3, 8, 8, 2, 4, 5, 6, 7);
+
+    if (length == fit[kind])
+        length = length % 8 + 1;
+    put_length(l, length);
+    put_byte(l, kind);
+    put_garbage(l, length - 1);
+}
+
+static void put_damaged(struct log *l, const uint8_t *body, int length)
+{
+    switch (l->damage) {
+    case CUT:
+        put_cut(l, length, body[0]);
+        break;
+    case WRONG_LENGTH:
+        put_wrong_length(l);
+        break;
+    case UNKNOWN_KIND:
+        put_unknown_kind(l);
+        break;
+    case UNFIT_KIND:
+        put_unfit_kind(l);
+        break;
+    case GARBAGE:
+        length = below(l, 100);
+        put_garbage(l, length);
+        l->ended = true;
+        break;
+    default:
+        put_sound(l, body, length);
+        break;
+    }
+}
+
+static void put_record(struct log *l, const uint8_t *body, int length)
+{
+    if (l->left == 0)
+        return;
+    l->left--;
+    if (l->undamaged-- == 0)
+        put_damaged(l, body, length);
+    else
+        put_sound(l, body, length);
+}
+
+static void put_write(struct log *l, int address, int byte)
+{
+    put_record(l, (uint8_t[]){1, (uint8_t)address, (uint8_t)byte}, 3);
+}
+
+static void put_read(struct log *l, int address, int count)
+{
+    put_record(l, (uint8_t[]){2, (uint8_t)address, (uint8_t)count}, 3);
+}
+
+static void put_sample(struct log *l, const int sample[AXES])
+{
+    uint8_t body[8] = {3};
+
+    for (int axis = X; axis < AXES; axis++) {
+        unsigned bits = (unsigned)sample[axis];
+
+        body[1 + 2 * axis] = (uint8_t)(bits >> 8);
+        body[2 + 2 * axis] = (uint8_t)bits;
+    }
+    body[7] = (uint8_t)below(l, 256);
+    put_record(l, body, 8);
+}
+
+static void put_cycle_start(struct log *l)
+{
+    put_record(l, (uint8_t[]){4}, 1);
+}
+
+/* ---- pieces of scenes ---- */
+
+static void put_any_sample(struct log *l)
+{
+    int sample[AXES];
+
+    for (int axis = X; axis < AXES; axis++)
+        sample[axis] = below(l, 4096) - 2048;
+    put_sample(l, sample);
+}
+
+static void put_corner_sample(struct log *l)
+{
+    int sample[AXES];
+
+    for (int axis = X; axis < AXES; axis++)
+        sample[axis] =
+            PICK(l, -2048, 2047, -2048, 2047, -2047, 2046, 0, -1, 1, 15, 16, -15, -16, -17);
+    put_sample(l, sample);
+}
+
+/* One axis, or more, outside the 12 bits, mostly by one. */
+static void put_outside_sample(struct log *l)
+{
+    int sample[AXES] = {0, 100, -100};
+    int axis = below(l, AXES);
+
+    sample[axis] = PICK(l, -2049, 2048, -2049, 2048, 4095, -4096, 32767, -32768);
+    axis = below(l, AXES);
+    sample[axis] = PICK(l, 2047, -2048, -2049, 2048);
+    put_sample(l, sample);
+}
+
+static int any_length(struct log *l)
+{
+    if (one_in(l, 3))
+        return below(l, 256);
+    return PICK(l, 0, 1, 2, 5, 6, 7, 12, 13, 62, 63, 64, 191, 192, 193, 255);
+}
+
+/* Reads the registers, whole or the part that shows the statuses. */
+static void look(struct log *l)
+{
+    if (one_in(l, 4))
+        put_read(l, 0x00, 63);
+    else if (one_in(l, 3))
+        put_read(l, 0x02, 13);
+    else
+        put_read(l, 0x09, 6);
+}
+
+static int any_fifo_mode(struct log *l)
+{
+    int mode = below(l, 3);
+    int axes = below(l, 4);
+    int ignored = one_in(l, 4) ? 0x3C : 0;
+
+    return mode << 6 | axes | ignored;
+}
+
+/* ---- scenes ---- */
+
+static void set_watermark(struct log *l)
+{
+    int level = PICK(l, 0, 1, 2, 3, 31, 32, 33, 63, 64, 0xC2);
+    int enable = below(l, 8) << 4;
+
+    put_write(l, 0x30, level);
+    put_write(l, 0x17, enable);
+}
+
+static void disturb_fifo(struct log *l, int mode)
+{
+    switch (below(l, 6)) {
+    case 0:
+        put_write(l, 0x3E, 0xC0 | mode); /* refused, and must empty nothing */
+        break;
+    case 1:
+        put_write(l, 0x3E, mode); /* the same byte empties it all the same */
+        break;
+    case 2:
+        put_outside_sample(l);
+        break;
+    case 3:
+        put_write(l, 0x30, mode); /* empties nothing */
+        break;
+    default:
+        put_any_sample(l);
+        break;
+    }
+}
+
+static void fifo_scene(struct log *l)
+{
+    int mode = any_fifo_mode(l);
+    int fill = PICK(l, 0, 1, 2, 3, 4, 7, 30, 31, 32, 33, 34, 40);
+    int readouts = 1 + below(l, 4);
+
+    put_write(l, 0x3E, mode);
+    if (one_in(l, 2))
+        set_watermark(l);
+    while (fill-- > 0) {
+        put_any_sample(l);
+        if (one_in(l, 8))
+            put_read(l, 0x0A, 5);
+    }
+    while (readouts-- > 0) {
+        int length = any_length(l);
+
+        put_read(l, 0x0A, 5);
+        put_read(l, 0x3F, length);
+        put_read(l, 0x0E, 1);
+        if (one_in(l, 3))
+            disturb_fifo(l, mode);
+    }
+}
+
+static void lock_scene(struct log *l)
+{
+    int events = 6 + below(l, 14);
+
+    while (events-- > 0) {
+        int axis = below(l, AXES);
+        int choice = below(l, 12);
+        int length = 1 + below(l, 7);
+        int shadow = PICK(l, 0x00, 0x00, 0x40, 0x80, 0xC0, 0x3F, 0x7F);
+
+        if (choice < 4)
+            put_read(l, 0x02 + 2 * axis, 1);
+        else if (choice < 7)
+            put_read(l, 0x03 + 2 * axis, 1);
+        else if (choice < 8)
+            put_read(l, 0x02 + axis, length);
+        else if (choice < 9)
+            put_write(l, 0x13, shadow);
+        else
+            put_any_sample(l);
+    }
+}
+
+static void burst_scene(struct log *l)
+{
+    int reads = 2 + below(l, 6);
+
+    while (reads-- > 0) {
+        int address = PICK(l, 0x00, 0x01, 0x02, 0x03, 0x3D, 0x3E, 0x3F, 0x40, 0x41, 0x80, 0xFF);
+        int length = any_length(l);
+
+        if (one_in(l, 2))
+            address = below(l, 0x42);
+        if (one_in(l, 3))
+            length = 0x3F - address + below(l, 3) - 1; /* one short, to 0x3E, one past */
+        put_read(l, address, length);
+        if (one_in(l, 4))
+            put_any_sample(l);
+    }
+}
+
+static void corner_scene(struct log *l)
+{
+    int mode = any_fifo_mode(l);
+    int samples = 2 + below(l, 6);
+
+    put_write(l, 0x3E, mode);
+    while (samples-- > 0) {
+        if (one_in(l, 3))
+            put_outside_sample(l);
+        else
+            put_corner_sample(l);
+        if (one_in(l, 2))
+            put_read(l, 0x02, 13);
+        if (one_in(l, 2))
+            put_read(l, 0x3F, 6);
+    }
+}
+
+static void write_scene(struct log *l)
+{
+    int writes = 3 + below(l, 8);
+
+    while (writes-- > 0) {
+        int address = PICK(l, 0x0F, 0x11, 0x16, 0x17, 0x18, 0x21, 0x32, 0x33, 0x36, 0x38, 0x39,
+                           0x3A, 0x3E, 0x0F, 0x21, 0x0E, 0x3F, 0x40, 0xFF);
+        int byte = below(l, 256);
+
+        if (one_in(l, 3))
+            address = below(l, 0x42);
+        if (one_in(l, 3))
+            byte = 1 << below(l, 8);
+        else if (one_in(l, 3))
+            byte = PICK(l, 0x00, 0xFF, 0x03, 0x05, 0x08, 0x0C, 0x07, 0x0F, 0x80, 0x87);
+        put_write(l, address, byte);
+        if (one_in(l, 2))
+            put_read(l, address, 1);
+    }
+    look(l);
+}
+
+/* Writes any bytes to neighbouring addresses, then reads the whole map. */
+static void sweep_scene(struct log *l)
+{
+    int address = below(l, 0x40);
+    int writes = 4 + below(l, 16);
+
+    while (writes-- > 0) {
+        int byte = one_in(l, 4) ? 0xFF : below(l, 256);
+
+        put_write(l, address++, byte);
+    }
+    put_read(l, 0x00, 63);
+}
+
+static void reset_scene(struct log *l)
+{
+    int kept = below(l, 256);
+    int command = PICK(l, 0xB6, 0xB6, 0xB6, 0x00, 0xB7, 0x36, 0xFF);
+
+    put_write(l, 0x3B, kept);
+    put_write(l, 0x3C, kept ^ 0x5A);
+    put_any_sample(l);
+    if (one_in(l, 2))
+        put_read(l, 0x04, 1); /* leaves a lock behind */
+    put_write(l, 0x14, command);
+    look(l);
+    if (one_in(l, 2))
+        put_any_sample(l);
+    look(l);
+}
+
+/* ---- any-motion scene ---- */
+
+struct setup {
+    int enable, threshold, count, latch;
+    int at[AXES];
+};
+
+static void set_motion(struct log *l, struct setup *s)
+{
+    int n = below(l, 4);
+    int ignored = one_in(l, 3) ? below(l, 64) << 2 : 0;
+
+    s->enable = one_in(l, 12) ? 0 : 1 + below(l, 7);
+    s->threshold = PICK(l, 0, 1, 2, 5, 20, 100, 254, 255);
+    s->count = ignored | n;
+    s->latch = PICK(l, 0x00, 0x00, 0x08, 0x07, 0x0F, 0x80, 0x87, 0x78, 0xFF, 0x01, 0x0E);
+    put_write(l, 0x27, s->count);
+    put_write(l, 0x28, s->threshold);
+    put_write(l, 0x21, s->latch);
+    put_write(l, 0x16, s->enable);
+    for (int axis = X; axis < AXES; axis++)
+        s->at[axis] = PICK(l, 0, 5, -3, 2047, -2048, 900);
+}
+
+/* Moves one axis by a step at, just above or just below 4 times the threshold. */
+static void move(struct log *l, struct setup *s, int axis, bool over)
+{
+    int size = 4 * s->threshold + (over ? 1 : 0);
+    int next;
+
+    if (one_in(l, 4))
+        size = over ? size + below(l, 60) : below(l, size + 1);
+    else if (!over && size > 0 && one_in(l, 2))
+        size--;
+    next = one_in(l, 2) ? s->at[axis] + size : s->at[axis] - size;
+    if (next > 2047)
+        next = s->at[axis] - size;
+    if (next < -2048)
+        next = s->at[axis] + size;
+    s->at[axis] = next;
+}
+
+/* Gives one point: over on at least one enabled axis, or calm. Other axes move as they like. */
+static void put_point(struct log *l, struct setup *s, bool over)
+{
+    int chosen = below(l, AXES);
+
+    while (s->enable != 0 && !(s->enable >> chosen & 1))
+        chosen = (chosen + 1) % AXES;
+    for (int axis = X; axis < AXES; axis++) {
+        bool enabled = s->enable >> axis & 1;
+        bool chance = one_in(l, 2);
+
+        move(l, s, axis, over ? axis == chosen || chance : !enabled && chance);
+    }
+    put_sample(l, s->at);
+}
+
+static void disturb_motion(struct log *l, const struct setup *s)
+{
+    int range = PICK(l, 0x03, 0x05, 0x08, 0x0C, 0x04, 0xF5);
+
+    switch (below(l, 9)) {
+    case 0:
+        put_write(l, 0x16, s->enable);
+        break;
+    case 1:
+        put_write(l, 0x27, s->count);
+        break;
+    case 2:
+        put_write(l, 0x28, s->threshold);
+        break;
+    case 3:
+        put_write(l, 0x21, s->latch);
+        break;
+    case 4:
+        put_write(l, 0x21, s->latch ^ 0x02); /* refused, and must clear nothing */
+        break;
+    case 5:
+        put_write(l, 0x0F, range);
+        break;
+    case 6:
+        put_write(l, 0x16, 0x40 | s->enable); /* refused */
+        break;
+    case 7:
+        put_outside_sample(l);
+        break;
+    case 8:
+        put_cycle_start(l);
+        break;
+    }
+}
+
+static void motion_scene(struct log *l)
+{
+    struct setup s;
+    int points = 8 + below(l, 24), run = 0;
+    bool over = false;
+
+    set_motion(l, &s);
+    put_sample(l, s.at);
+    while (points-- > 0) {
+        if (run-- == 0) {
+            over = !over;
+            run = below(l, 5);
+        }
+        put_point(l, &s, over);
+        put_read(l, 0x09, 3);
+        if (one_in(l, 12)) {
+            disturb_motion(l, &s);
+            put_read(l, 0x09, 3);
+        }
+    }
+}
+
+/* Sets the data interrupt and looks at it around samples, cycle starts and its enable bit. */
+static void data_scene(struct log *l)
+{
+    int events = 4 + below(l, 8);
+
+    while (events-- > 0) {
+        int enable = below(l, 8) << 4;
+
+        switch (below(l, 4)) {
+        case 0:
+            put_cycle_start(l);
+            break;
+        case 1:
+            put_write(l, 0x17, enable);
+            break;
+        case 2:
+            put_outside_sample(l);
+            break;
+        default:
+            put_any_sample(l);
+            break;
+        }
+        put_read(l, 0x0A, 1);
+    }
+}
+
+/* ---- the last scene: only the pins at the end are printed ---- */
+
+enum { PIN_WRITES = 10 };
+
+static void set_pins(struct log *l)
+{
+    static const uint8_t address[] = {0x20, 0x19, 0x1A, 0x1B};
+
+    for (size_t i = 0; i < sizeof address; i++) {
+        int byte = below(l, 256);
+
+        if (one_in(l, 2)) /* few bits, so that one status alone decides a pin */
+            byte = address[i] == 0x1A ? PICK(l, 0x01, 0x02, 0x04, 0x80, 0x40, 0x20, 0x22)
+                                      : PICK(l, 0x00, 0x04, 0xFB);
+        put_write(l, address[i], byte);
+    }
+}
+
+static void pins_scene(struct log *l, int fill)
+{
+    int mode = any_fifo_mode(l);
+    int enable = below(l, 8) << 4;
+    int axes = below(l, 8);
+    int n = PICK(l, 0, 0, 1, 3);
+    int level = one_in(l, 2) ? fill : 1;
+
+    set_pins(l);
+    put_write(l, 0x17, enable);
+    put_write(l, 0x30, level);
+    put_write(l, 0x3E, mode);
+    put_write(l, 0x27, n);
+    put_write(l, 0x16, axes);
+    while (fill-- > 0)
+        put_any_sample(l);
+    if (one_in(l, 3))
+        put_cycle_start(l);
+}
+
+/* ---- whole logs ---- */
+
+static void any_scene(struct log *l)
+{
+    static void (*const scene[])(struct log *) = {
+        fifo_scene,  fifo_scene,  lock_scene, burst_scene, corner_scene, write_scene,
+        write_scene, sweep_scene, data_scene, set_pins,    motion_scene, motion_scene,
+    };
+
+    if (one_in(l, 16))
+        reset_scene(l);
+    else
+        scene[below(l, sizeof scene / sizeof *scene)](l);
+}
+
+static void put_head(struct log *l)
+{
+    int version = PICK(l, 0, 2, 3, 0x81, 0xFF);
+
+    switch (l->damage) {
+    case EMPTY:
+        l->ended = true;
+        break;
+    case ONLY_GARBAGE:
+        version = below(l, 40);
+        put_garbage(l, version);
+        l->ended = true;
+        break;
+    case VERSION:
+        put_byte(l, version);
+        break;
+    default:
+        put_byte(l, 1);
+        break;
+    }
+}
+
+static void edge_log(uint64_t seed, uint64_t records)
+{
+    struct log l = {.state = seed, .undamaged = UINT64_MAX};
+    int fill = PICK(&l, 0, 1, 2, 2, 3, 4, 31, 32, 33);
+    uint64_t last = (uint64_t)(fill + PIN_WRITES);
+
+    if (last > records)
+        last = records;
+    if (one_in(&l, 4)) {
+        l.damage = (enum damage)(1 + below(&l, DAMAGES - 1));
+        l.undamaged = records > 0 ? draw(&l) % records : 0;
+    }
+    put_head(&l);
+    l.left = records - last;
+    while (l.left > 0 && !l.ended)
+        any_scene(&l);
+    l.left = last;
+    pins_scene(&l, fill);
+}
+
+/* ---- the long log ---- */
+
+static void put_bench_sample(struct log *l)
+{
+    int sample[AXES] = {0, 0, 1024};
+
+    for (int axis = X; axis < AXES; axis++)
+        sample[axis] += below(l, 64) - 32;
+    put_cycle_start(l);
+    put_sample(l, sample);
+}
+
+static void put_bench_write(struct log *l)
+{
+    int level = 1 + below(l, 32);
+    int threshold = below(l, 32);
+    int mode = PICK(l, 0x80, 0x80, 0x40, 0x81, 0x42);
+
+    switch (below(l, 4)) {
+    case 0:
+        put_write(l, 0x30, level);
+        break;
+    case 1:
+        put_write(l, 0x28, threshold);
+        break;
+    case 2:
+        put_write(l, 0x21, 0x80);
+        break;
+    case 3:
+        put_write(l, 0x3E, mode);
+        break;
+    }
+}
+
+static void big_log(uint64_t megabytes)
+{
+    struct log l = {.left = UINT64_MAX, .undamaged = UINT64_MAX};
+
+    put_head(&l);
+    put_write(&l, 0x3E, 0x80);
+    put_write(&l, 0x17, 0x70);
+    put_write(&l, 0x1A, 0x41);
+    put_write(&l, 0x19, 0x04);
+    put_write(&l, 0x16, 0x07);
+    while (l.bytes < megabytes * 1000000) {
+        int choice = below(&l, 1000);
+        int frames = 1 + below(&l, 32);
+        int address = PICK(&l, 0x00, 0x02, 0x09, 0x0E);
+
+        if (choice < 850)
+            put_bench_sample(&l);
+        else if (choice < 940)
+            put_read(&l, 0x3F, 6 * frames);
+        else if (choice < 995)
+            put_read(&l, address, 6);
+        else
+            put_bench_write(&l);
+    }
+}
+
+static bool parse_number(const char *text, uint64_t *number)
+{
+    char *end;
+
+    *number = strtoull(text, &end, 0);
+    return end != text && *end == '\0';
+}
+
+int main(int count, char **argument)
+{
+    static char block[1 << 16];
+    uint64_t seed = 0, size = 0;
+    bool big = count == 3 && strcmp(argument[1], "--big") == 0;
+
+    if (count != 3 || !(big || parse_number(argument[1], &seed)) ||
+        !parse_number(argument[2], &size)) {
+        fputs("usage: logs SEED RECORDS | logs --big MEGABYTES\n", stderr);
+        return 2;
+    }
+    setvbuf(stdout, block, _IOFBF, sizeof block);
+    if (big)
+        big_log(size);
+    else
+        edge_log(seed, size);
+    return fflush(stdout) != 0 || ferror(stdout) ? 1 : 0;
+}

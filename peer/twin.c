@@ -1,0 +1,438 @@
+#include "twin.h"
+
+#include <stdlib.h>
+#include <string.h>
+
+enum {
+    X_LSB = 0x02,
+    X_MSB = 0x03,
+    Y_LSB = 0x04,
+    Y_MSB = 0x05,
+    Z_LSB = 0x06,
+    Z_MSB = 0x07,
+    TEMPERATURE = 0x08,
+    STATUS_MOTION = 0x09,
+    STATUS_DATA = 0x0A,
+    STATUS_MARKS = 0x0B,
+    STATUS_FIFO = 0x0E,
+    RANGE = 0x0F,
+    SHADOW = 0x13,
+    SOFT_RESET = 0x14,
+    ENABLE_MOTION = 0x16,
+    ENABLE_DATA = 0x17,
+    MAP_INT1 = 0x19,
+    MAP_DATA = 0x1A,
+    MAP_INT2 = 0x1B,
+    PIN_DRIVE = 0x20,
+    LATCH = 0x21,
+    MOTION_COUNT = 0x27,
+    MOTION_THRESHOLD = 0x28,
+    WATERMARK_LEVEL = 0x30,
+    KEPT_3B = 0x3B,
+    KEPT_3C = 0x3C,
+    FIFO_MODE = 0x3E,
+    FIFO_DATA = 0x3F
+};
+
+/* Bits of 0x0A. */
+enum { DATA = 0x80, WATERMARK = 0x40, FULL = 0x20 };
+
+enum { MODE_BITS = 0xC0, BYPASS = 0x00, FIFO = 0x40 };
+
+static const struct {
+    uint8_t reset, mask;
+} row[REGISTERS] = {
+    {CHIP_NUMBER, 0}, {0xFF, 0x00}, {0x00, 0x00}, {0x00, 0x00}, /* 00 */
+    {0x00, 0x00},     {0x00, 0x00}, {0x00, 0x00}, {0x00, 0x00}, /* 04 */
+    {0x00, 0x00},     {0x00, 0x00}, {0x00, 0x00}, {0x00, 0x00}, /* 08 */
+    {0x00, 0x00},     {0xFF, 0x00}, {0x00, 0x00}, {0x03, 0x0F}, /* 0C */
+    {0x0F, 0x1F},     {0x00, 0xFE}, {0x00, 0x60}, {0x00, 0xC0}, /* 10 */
+    {0x00, 0x00},     {0xFF, 0x00}, {0x00, 0xF7}, {0x00, 0x7F}, /* 14 */
+    {0x00, 0x0F},     {0x00, 0xFF}, {0x00, 0xE7}, {0x00, 0xFF}, /* 18 */
+    {0xFF, 0x00},     {0xFF, 0x00}, {0x00, 0x3F}, {0xFF, 0x00}, /* 1C */
+    {0x05, 0x0F},     {0x00, 0x0F}, {0x09, 0xFF}, {0x30, 0xFF}, /* 20 */
+    {0x81, 0xC7},     {0x0F, 0xFF}, {0xC0, 0xFF}, {0x00, 0xFF}, /* 24 */
+    {0x14, 0xFF},     {0x14, 0xFF}, {0x04, 0xC7}, {0x0A, 0xDF}, /* 28 */
+    {0x18, 0x7F},     {0x48, 0x7F}, {0x08, 0x3F}, {0x11, 0x37}, /* 2C */
+    {0x00, 0x3F},     {0xFF, 0x00}, {0x00, 0x07}, {0xF4, 0x00}, /* 30 */
+    {0x00, 0x07},     {0xFF, 0x00}, {0x10, 0x00}, {0x00, 0x7F}, /* 34 */
+    {0x00, 0xFF},     {0x00, 0xFF}, {0x00, 0xFF}, {0x00, 0xFF}, /* 38 */
+    {0x00, 0xFF},     {0xFF, 0x00}, {0x00, 0xC3}, {0x00, 0x00}  /* 3C */
+};
+
+/* ---- power-up and soft reset ---- */
+
+void twin_power_up(struct twin *t)
+{
+    memset(t, 0, sizeof *t);
+    for (int address = 0; address < REGISTERS; address++)
+        t->reg[address] = row[address].reset;
+}
+
+static void soft_reset(struct twin *t)
+{
+    uint8_t kept_3b = t->reg[KEPT_3B], kept_3c = t->reg[KEPT_3C];
+
+    twin_power_up(t);
+    t->reg[KEPT_3B] = kept_3b;
+    t->reg[KEPT_3C] = kept_3c;
+}
+
+/* ---- FIFO ---- */
+
+static unsigned fifo_depth(const struct twin *t)
+{
+    return (t->reg[FIFO_MODE] & MODE_BITS) == BYPASS ? 1 : DEPTH;
+}
+
+static size_t frame_size(const struct twin *t)
+{
+    return t->reg[FIFO_MODE] & 3 ? 2 : 2 * AXES;
+}
+
+static void drop_oldest(struct fifo *f)
+{
+    f->oldest = (uint8_t)((f->oldest + 1) % DEPTH);
+    f->count--;
+}
+
+static void empty_fifo(struct fifo *f)
+{
+    f->oldest = 0;
+    f->count = 0;
+    f->overrun = false;
+}
+
+/* Makes a frame of the sample that the channels have just taken, with all new-data bits at 1. */
+static void put_frame(struct twin *t)
+{
+    struct fifo *f = &t->fifo;
+    unsigned select = t->reg[FIFO_MODE] & 3;
+    const uint8_t *channel = &t->reg[select ? X_LSB + 2 * (select - 1) : X_LSB];
+
+    if (f->count == fifo_depth(t)) {
+        f->overrun = true;
+        if ((t->reg[FIFO_MODE] & MODE_BITS) == FIFO)
+            return;
+        drop_oldest(f);
+    }
+    memcpy(f->frame[(f->oldest + f->count) % DEPTH], channel, frame_size(t));
+    f->count++;
+}
+
+static void read_fifo(struct twin *t, uint8_t *buffer, size_t length)
+{
+    struct fifo *f = &t->fifo;
+    size_t size = frame_size(t);
+
+    while (length > 0 && f->count > 0) {
+        size_t part = length < size ? length : size;
+
+        memcpy(buffer, f->frame[f->oldest], part);
+        drop_oldest(f);
+        buffer += part;
+        length -= part;
+    }
+    memset(buffer, 0, length);
+}
+
+/* ---- any-motion ---- */
+
+static void clear_motion(struct motion *m)
+{
+    m->status = false;
+    m->marks = 0;
+    m->over_run = 0;
+    m->calm_run = 0;
+}
+
+static void over_point(struct motion *m, unsigned n, int axis, bool negative)
+{
+    m->calm_run = 0;
+    if (m->over_run < n)
+        m->over_run++;
+    if (m->over_run == n && !m->status) {
+        m->status = true;
+        m->marks = (uint8_t)(1 << axis);
+        m->negative = negative;
+    }
+}
+
+static void calm_point(struct motion *m, unsigned n, bool latched)
+{
+    m->over_run = 0;
+    if (m->calm_run < n)
+        m->calm_run++;
+    if (m->calm_run == n && !latched) {
+        m->status = false;
+        m->marks = 0;
+    }
+}
+
+static void judge_point(struct twin *t, const int difference[AXES])
+{
+    unsigned enabled = t->reg[ENABLE_MOTION] & 7;
+    unsigned n = (t->reg[MOTION_COUNT] & 3) + 1u;
+    int threshold = 4 * t->reg[MOTION_THRESHOLD];
+
+    for (int axis = 0; axis < AXES; axis++)
+        if (enabled >> axis & 1 && abs(difference[axis]) > threshold) {
+            over_point(&t->motion, n, axis, difference[axis] < 0);
+            return;
+        }
+    calm_point(&t->motion, n, (t->reg[LATCH] & 7) == 7);
+}
+
+static void any_motion(struct twin *t, const int sample[AXES])
+{
+    struct motion *m = &t->motion;
+    bool first = !m->has_previous;
+    int difference[AXES];
+
+    for (int axis = 0; axis < AXES; axis++) {
+        difference[axis] = sample[axis] - m->previous[axis];
+        m->previous[axis] = (int16_t)sample[axis];
+    }
+    m->has_previous = true;
+    if (!first && t->reg[ENABLE_MOTION] & 7)
+        judge_point(t, difference);
+}
+
+/* ---- register write ---- */
+
+static enum answer refuse_range(uint8_t byte)
+{
+    switch (byte & 0x0F) {
+    case 0x3: /* 2 g */
+    case 0x5: /* 4 g */
+    case 0x8: /* 8 g */
+    case 0xC: /* 16 g */
+        return DONE;
+    default:
+        return RESERVED_CODE;
+    }
+}
+
+static enum answer refuse_latch(uint8_t byte)
+{
+    unsigned code = byte & 7; /* bit 3 makes no difference */
+
+    return code == 0 || code == 7 ? DONE : NOT_MODELLED;
+}
+
+static enum answer refuse_bits(uint8_t byte, uint8_t not_modelled)
+{
+    return byte & not_modelled ? NOT_MODELLED : DONE;
+}
+
+/* The number with which a write is refused, or DONE. It looks at the byte before the mask. */
+static enum answer refuse_write(uint8_t address, uint8_t byte)
+{
+    switch (address) {
+    case RANGE:
+        return refuse_range(byte);
+    case FIFO_MODE:
+        return (byte & MODE_BITS) == MODE_BITS ? RESERVED_CODE : DONE;
+    case LATCH:
+        return refuse_latch(byte);
+    case 0x11:
+        return refuse_bits(byte, 0xE0);
+    case ENABLE_MOTION:
+        return refuse_bits(byte, 0xF0);
+    case ENABLE_DATA:
+        return refuse_bits(byte, 0x0F);
+    case 0x18:
+        return refuse_bits(byte, 0x07);
+    case 0x32:
+        return refuse_bits(byte, 0x03);
+    case 0x33:
+        return refuse_bits(byte, 0x0B);
+    case 0x36:
+        return refuse_bits(byte, 0xE7);
+    case 0x38:
+    case 0x39:
+    case 0x3A:
+        return refuse_bits(byte, 0xFF);
+    default:
+        return DONE;
+    }
+}
+
+/* What an accepted write does beside storing its byte. */
+static void act_on_write(struct twin *t, uint8_t address, uint8_t byte)
+{
+    switch (address) {
+    case RANGE:
+        t->motion.has_previous = false;
+        clear_motion(&t->motion);
+        break;
+    case ENABLE_MOTION:
+    case LATCH:
+    case MOTION_COUNT:
+    case MOTION_THRESHOLD:
+        clear_motion(&t->motion);
+        break;
+    case SHADOW:
+        if (byte & 0x40)
+            memset(t->locked, 0, sizeof t->locked);
+        break;
+    case SOFT_RESET:
+        if (byte == 0xB6)
+            soft_reset(t);
+        break;
+    case FIFO_MODE:
+        empty_fifo(&t->fifo);
+        break;
+    }
+}
+
+enum answer twin_write(struct twin *t, uint8_t address, uint8_t byte)
+{
+    enum answer refusal;
+    uint8_t mask;
+
+    if (address >= REGISTERS)
+        return WRONG_ADDRESS;
+    refusal = refuse_write(address, byte);
+    if (refusal != DONE)
+        return refusal;
+    mask = row[address].mask;
+    t->reg[address] = (uint8_t)((t->reg[address] & ~mask) | (byte & mask));
+    act_on_write(t, address, byte);
+    return DONE;
+}
+
+/* ---- burst read ---- */
+
+static uint8_t read_lsb(struct twin *t, uint8_t address)
+{
+    unsigned axis = (address - X_LSB) / 2u;
+    uint8_t byte = t->reg[address];
+
+    t->reg[address] &= 0xFE;
+    if (!(t->reg[SHADOW] & 0x40)) {
+        t->lock[axis] = t->reg[address + 1];
+        t->locked[axis] = true;
+    }
+    return byte;
+}
+
+static uint8_t read_msb(struct twin *t, uint8_t address)
+{
+    unsigned axis = (address - X_MSB) / 2u;
+    uint8_t byte = t->locked[axis] ? t->lock[axis] : t->reg[address];
+
+    t->locked[axis] = false;
+    return byte;
+}
+
+/* The byte of 0x0A. */
+static uint8_t status_data(const struct twin *t)
+{
+    unsigned enabled = t->reg[ENABLE_DATA], level = t->reg[WATERMARK_LEVEL];
+    unsigned status = 0;
+
+    if (enabled & 0x10 && t->fresh_data)
+        status |= DATA;
+    if (enabled & 0x20 && t->fifo.count == fifo_depth(t))
+        status |= FULL;
+    if (enabled & 0x40 && level != 0 && t->fifo.count == level)
+        status |= WATERMARK;
+    return (uint8_t)status;
+}
+
+static uint8_t read_register(struct twin *t, uint8_t address)
+{
+    switch (address) {
+    case X_LSB:
+    case Y_LSB:
+    case Z_LSB:
+        return read_lsb(t, address);
+    case X_MSB:
+    case Y_MSB:
+    case Z_MSB:
+        return read_msb(t, address);
+    case STATUS_MOTION:
+        return t->motion.status ? 0x04 : 0;
+    case STATUS_DATA:
+        return status_data(t);
+    case STATUS_MARKS:
+        return t->motion.marks | (t->motion.negative ? 0x08 : 0);
+    case STATUS_FIFO:
+        return t->fifo.count | (t->fifo.overrun ? 0x80 : 0);
+    default:
+        return t->reg[address];
+    }
+}
+
+enum answer twin_read(struct twin *t, uint8_t address, uint8_t *buffer, size_t length)
+{
+    if (address >= REGISTERS)
+        return WRONG_ADDRESS;
+    if (length == 0 || length > LONGEST_READ)
+        return WRONG_READ_LENGTH;
+    if (address == FIFO_DATA) {
+        read_fifo(t, buffer, length);
+        return DONE;
+    }
+    if (address + length > FIFO_DATA)
+        return READ_PASSES_3E;
+    for (size_t i = 0; i < length; i++)
+        buffer[i] = read_register(t, (uint8_t)(address + i));
+    return DONE;
+}
+
+/* ---- sample and cycle start ---- */
+
+static bool outside_12_bits(int value)
+{
+    return value < -2048 || value > 2047;
+}
+
+enum answer twin_sample(struct twin *t, int x, int y, int z, uint8_t temperature)
+{
+    const int sample[AXES] = {x, y, z};
+
+    if (outside_12_bits(x) || outside_12_bits(y) || outside_12_bits(z))
+        return OUTSIDE_12_BITS;
+    for (int axis = 0; axis < AXES; axis++) {
+        unsigned bits = (unsigned)sample[axis];
+
+        t->reg[X_LSB + 2 * axis] = (uint8_t)((bits & 0x0F) << 4 | 1);
+        t->reg[X_MSB + 2 * axis] = (uint8_t)(bits >> 4);
+    }
+    t->reg[TEMPERATURE] = temperature;
+    t->fresh_data = true;
+    put_frame(t);
+    any_motion(t, sample);
+    return DONE;
+}
+
+enum answer twin_cycle_start(struct twin *t)
+{
+    t->fresh_data = false;
+    return DONE;
+}
+
+/* ---- pins ---- */
+
+/* drive: bit 0 is the active level, bit 1 chooses open-drive. */
+static enum level pin_level(bool active, unsigned drive)
+{
+    if (!active && drive & 2)
+        return RELEASED;
+    return active == (drive & 1) ? HIGH : LOW;
+}
+
+struct pins twin_pins(const struct twin *t)
+{
+    unsigned status = status_data(t), map = t->reg[MAP_DATA], drive = t->reg[PIN_DRIVE];
+    bool motion = t->motion.status;
+    bool data = status & DATA, watermark = status & WATERMARK, full = status & FULL;
+    bool int1 = (t->reg[MAP_INT1] & 0x04 && motion) || (map & 0x01 && data) ||
+                (map & 0x02 && watermark) || (map & 0x04 && full);
+    bool int2 = (t->reg[MAP_INT2] & 0x04 && motion) || (map & 0x80 && data) ||
+                (map & 0x40 && watermark) || (map & 0x20 && full);
+
+    return (struct pins){pin_level(int1, drive & 3), pin_level(int2, drive >> 2 & 3)};
+}
