@@ -1,0 +1,72 @@
+/* Recorder firmware against the twin: a driver's usual start-up, a burst readout, and an overrun that is noticed. */
+#include <stdio.h>
+#include <string.h>
+#include "twin.h"
+
+enum { CHIP_ID = 0x00, FIFO_STATUS = 0x0E, RANGE = 0x0F, BANDWIDTH = 0x10, SOFT_RESET = 0x14, INT_ENABLE = 0x17, INT_MAP = 0x1A,
+       WATERMARK = 0x30, FIFO_CONFIG = 0x3E, FIFO_DATA = 0x3F };
+enum { FRAME = 6 };
+
+static struct twin chip; /* the bus's other end: static storage is zeroed */
+
+/* The bus: a register pair as an I2C driver has it. A refusal is the slave's NACK. */
+static int bus_write(uint8_t address, uint8_t byte) {
+    uint8_t answer = twin_write(&chip, address, byte);
+    if (answer != TWIN_DONE) printf("  write %02X to %02X refused: %u\n", byte, address, answer);
+    return answer == TWIN_DONE;
+}
+
+static int bus_read(uint8_t address, uint8_t *buffer, size_t length) {
+    uint8_t answer = twin_read(&chip, address, buffer, length);
+    if (answer != TWIN_DONE) printf("  read of %zu at %02X refused: %u\n", length, address, answer);
+    return answer == TWIN_DONE;
+}
+
+static int start(void) {
+    uint8_t id;
+    if (!bus_read(CHIP_ID, &id, 1) || id != 0xFA) return 0;
+    printf("chip %02X\n", id);
+    return bus_write(SOFT_RESET, 0xB6) && bus_write(RANGE, 0x08) && bus_write(BANDWIDTH, 0x0C) && bus_write(INT_MAP, 0x02)
+        && bus_write(INT_ENABLE, 0x40) && bus_write(WATERMARK, 0x04) && bus_write(FIFO_CONFIG, 0x40);
+}
+
+/* Two signed bytes of a frame as a count of 12 bits. */
+static int count_of(const uint8_t *axis) { return (int16_t)((uint16_t)(axis[1] << 8 | axis[0])) >> 4; }
+
+static void drain(void) {
+    uint8_t status, frames[4 * FRAME];
+    if (!bus_read(FIFO_STATUS, &status, 1)) return;
+    printf("%u held%s\n", status & 0x7F, status & 0x80 ? ", samples were lost" : "");
+    if (!bus_read(FIFO_DATA, frames, sizeof frames)) return;
+    for (size_t i = 0; i < sizeof frames; i += FRAME)
+        printf("  x %d y %d z %d\n", count_of(frames + i), count_of(frames + i + 2), count_of(frames + i + 4));
+}
+
+static void samples(int from, int n) {
+    for (int i = from; i < from + n; i++) {
+        uint8_t answer = twin_sample(&chip, i, -i, 1000, 0x17);
+        if (answer != TWIN_DONE) printf("  sample %d refused: %u\n", i, answer);
+        twin_cycle(&chip);
+    }
+}
+
+int main(void) {
+    struct { struct twin record; uint8_t behind[64]; } lent;
+    memset(&lent, 0, sizeof lent);
+    memset(lent.behind, 0x5A, sizeof lent.behind);
+    twin_power_up(&lent.record);
+    for (size_t i = 0; i < sizeof lent.behind; i++)
+        if (lent.behind[i] != 0x5A) return printf("the library's record is larger than the header's\n"), 1;
+    twin_power_up(&chip);
+    if (!start()) return printf("the start-up failed\n"), 1;
+    bus_write(RANGE, 0x07); /* a code that the sheet does not define */
+    samples(1, 4);
+    printf("INT1 %s\n", twin_int1(&chip) == TWIN_HIGH ? "high: four frames wait" : "low");
+    drain();
+    samples(5, 40); /* the firmware is late */
+    drain();
+    bus_read(FIFO_STATUS, NULL, 1);
+    bus_read(0x3E, (uint8_t[2]){0}, 2);
+    printf("unknown kind: %u\n", twin_event(&chip, 9, 0, 0, 0, 0, 0, (uint8_t[1]){0}, 1));
+    return 0;
+}
