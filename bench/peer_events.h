@@ -1,0 +1,7 @@
+#include "../peer/twin.h"
+static struct twin it;
+static void begin(void) { twin_power_up(&it); }
+static unsigned event_write(uint8_t a, uint8_t b) { return twin_write(&it, a, b); }
+static unsigned event_read(uint8_t a, uint8_t *p, size_t n) { return twin_read(&it, a, p, n); }
+static unsigned event_sample(int16_t x, int16_t y, int16_t z, uint8_t t) { return twin_sample(&it, x, y, z, t); }
+static unsigned event_cycle(void) { return twin_cycle_start(&it); }
