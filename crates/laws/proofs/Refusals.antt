@@ -1,4 +1,4 @@
--- A refusal is given exactly when its row says.
+-- A refusal is given exactly when its row says, and nothing is that no row has.
 -- Assumes nothing.
 use mathlib.Core.Path.{_≡_, refl, sym, ap, _∙_}
 use mathlib.Core.Bool.{Bool, true, false, not}
@@ -6,8 +6,8 @@ use mathlib.Core.List.{List, [], _∷_}
 use Prim.Native.Nat.{ℕ}
 use lib.Dec.{eqb}
 use borrow.Author.Tests.{not-true, eqb-true, eq-eqb}
-use Rattle.laws.specs.Choice.{pick, both}
-use Rattle.laws.specs.Refusals.{Row, first, due}
+use Rattle.laws.specs.Choice.{pick, both, either}
+use Rattle.laws.specs.Refusals.{Row, first, due, dueAmong, isIn}
 
 parts : (b c : Bool) → both b c ≡ true → (b ≡ true) × (c ≡ true)
 parts true c h = (refl, h)
@@ -20,6 +20,10 @@ both-false false = refl
 picked : (b : Bool) → pick b true false ≡ b
 picked true = refl
 picked false = refl
+
+same : (b c : Bool) → pick b c c ≡ c
+same true c = refl
+same false c = refl
 
 module _ {A : Type 0} (number : A → ℕ) where
   -- the number m is neither 0 nor a row's
@@ -53,6 +57,33 @@ module _ {A : Type 0} (number : A → ℕ) where
   exact done z (r ∷ rs) n h =
       let p = parts (fresh (number (r .answer)) rs) (apart rs) h in
       one (r .holds) (r .answer) done n rs (p .0) (exact done z rs n (p .1))
+
+  -- ---- rows of which several may have one number
+  among : (t : Bool) (x rest : A) (n : ℕ) (d : Bool) → eqb n (number rest) ≡ d → eqb n (number (pick t x rest)) ≡ pick (eqb n (number x)) (either t d) (both (not t) d)
+  among true x rest n d h = sym (picked (eqb n (number x)))
+  among false x rest n d h = h ∙ sym (same (eqb n (number x)) d)
+
+  pub exact-among : (done : A) → number done ≡ 0 → (rs : List (Row A)) (n : ℕ) → eqb n (number (first done rs)) ≡ dueAmong number rs n
+  exact-among done z [] n = ap (λ (k : ℕ). eqb n k) z
+  exact-among done z (r ∷ rs) n = among (r .holds) (r .answer) (first done rs) n (dueAmong number rs n) (exact-among done z rs n)
+
+  -- ---- nothing else
+  module _ (ms : List ℕ) (done : A) (done-in : isIn ms (number done) ≡ true) where
+    -- the rows' numbers are in the list
+    abbrev pub allIn : List (Row A) → Bool
+    allIn [] = true
+    allIn (r ∷ rs) = both (isIn ms (number (r .answer))) (allIn rs)
+
+    either-in : (t : Bool) (x rest : A) → isIn ms (number x) ≡ true → isIn ms (number rest) ≡ true → isIn ms (number (pick t x rest)) ≡ true
+    either-in true x rest p q = p
+    either-in false x rest p q = q
+
+    -- the answer's number is in a list that has those of all rows
+    pub first-in : (rs : List (Row A)) → allIn rs ≡ true → isIn ms (number (first done rs)) ≡ true
+    first-in [] h = done-in
+    first-in (r ∷ rs) h =
+        let p = parts (isIn ms (number (r .answer))) (allIn rs) h in
+        either-in (r .holds) (r .answer) (first done rs) (p .0) (first-in rs (p .1))
 
 -- as an equivalence
 pub ways : {n m : ℕ} {b : Bool} → eqb n m ≡ b → (m ≡ n → b ≡ true) × (b ≡ true → m ≡ n)

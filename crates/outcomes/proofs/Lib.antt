@@ -1,0 +1,10 @@
+pub mod SettledLaws
+pub mod SettledFifo
+pub mod SettledChannels
+pub mod SettledMotion
+pub mod SettledRegisters
+pub mod SettledDevice
+pub mod SettledPlayback
+pub mod Words
+pub mod Refusals
+pub mod Contracts

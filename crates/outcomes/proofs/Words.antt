@@ -1,0 +1,97 @@
+-- Tests that compute, and what they mean in words.
+-- Assumes nothing.
+use Prim.Native.Nat.{ℕ, _<_}
+use mathlib.Core.Bool.{Bool, true, false, not}
+use mathlib.Core.List.{List, []}
+use mathlib.Core.Logic.{_↔_, _⊎_, inl, inr, ⊎-elim}
+use mathlib.Core.Path.{_≡_, refl, sym, ap, subst, _∙_}
+use native.Mathlib.Omega.{arith}
+use borrow.Author.Tests.{ltb-true, ltb-false, lt-ltb, le-ltb, eqb-true, eq-eqb}
+use lib.Dec.{T, eqb, ltb}
+use lib.IntN.{ℤ, pos, negsuc, negℤ}
+use lib.ListN.{getD}
+use lib.Signed.{ltZ, _<ℤ_, ltZ-yes}
+use Rattle.laws.specs.Bits.{bit}
+use Rattle.laws.specs.Choice.{pick, both, either}
+use Rattle.laws.specs.Table.{upFrom}
+use Rattle.laws.proofs.Refusals.{ways}
+use Rattle.laws.proofs.Table.{entry}
+use Rattle.channels.specs.Codes.{inRange}
+use Rattle.fifo.specs.Codes.{modeOf}
+use Rattle.registers.specs.Codes.{rangeOf, latchOfNibble}
+use Rattle.registers.specs.Refused.{reservedCode, notModelled}
+use Rattle.registers.specs.Table.{rowAt, rowOf, lineOf, lacking as bits}
+use Rattle.outcomes.specs.Numbers.{reserved, lacking, Outside}
+
+no : {X : Type 0} → false ≡ true → X
+no e = let z : _≡_ {A = ℕ} 0 1 = cc in absurd (omega arith)
+
+-- ---- a test that is true exactly when P holds
+abbrev pub Means : Bool → Type 0 → Type 0
+Means b P = (b ≡ true) ↔ P
+
+pub when : {n m : ℕ} {b : Bool} {P : Type 0} → eqb n m ≡ b → Means b P → (m ≡ n) ↔ P
+when e w = let u = ways e in (λ p. w .0 (u .0 p), λ p. u .1 (w .1 p))
+
+-- b is the same test as c
+pub told : {b c : Bool} → b ≡ c → Means b (c ≡ true)
+told e = (λ p. sym e ∙ p, λ p. e ∙ p)
+
+pub isnt : {b : Bool} {P : Type 0} → Means b P → Means (not b) (¬ P)
+isnt {b = true} w = (no, λ h. absurd (h (w .0 refl)))
+isnt {b = false} w = (λ e p. no (w .1 p), λ h. refl)
+
+-- no test is left
+pub last : {b : Bool} {P : Type 0} → Means b P → Means (both b true) P
+last {b = true} w = w
+last {b = false} w = w
+
+pub less : (a b : ℕ) → Means (ltb a b) (a < b)
+less a b = (ltb-true a b, lt-ltb a b)
+
+pub equal : (a b : ℕ) → Means (eqb a b) (a ≡ b)
+equal a b = (eqb-true a b, eq-eqb a b)
+
+pub and : {b c : Bool} {P Q : Type 0} → Means b P → (P → Means c Q) → Means (both b c) (P × Q)
+and {b = true} w v = (λ e. (w .0 refl, v (w .0 refl) .0 e), λ h. v (h .0) .1 (h .1))
+and {b = false} w v = (no, λ h. w .1 (h .0))
+
+pub or : {b c : Bool} {P Q : Type 0} → Means b P → Means c Q → Means (either b c) (P ⊎ Q)
+or {b = true} p q = (λ e. inl (p .0 refl), λ h. refl)
+or {b = false} p q = (λ e. inr (q .0 e), ⊎-elim (λ x. no (p .1 x)) (q .1))
+
+-- ---- 2 and 3: by computation, at each address and byte
+everywhere : (f g : ℕ → ℕ → Bool) → upFrom (λ a. upFrom (f a) 0 256) 0 64 ≡ upFrom (λ a. upFrom (g a) 0 256) 0 64
+    → (a b : ℕ) → a < 64 → b < 256 → f a b ≡ g a b
+everywhere f g e a b h k =
+    let row : upFrom (f a) 0 256 ≡ upFrom (g a) 0 256 =
+    sym (entry (λ c. upFrom (f c) 0 256) [] 64 a h) ∙ ap (λ (l : List (List Bool)). getD l a []) e ∙ entry (λ c. upFrom (g c) 0 256) [] 64 a h in
+    sym (entry (f a) false 256 b k) ∙ ap (λ (l : List Bool). getD l b false) row ∙ entry (g a) false 256 b k
+
+pub reserved-is : (a b : ℕ) → a < 64 → b < 256 → reservedCode a b ≡ reserved a b
+unfolding reservedCode rangeOf modeOf reserved
+reserved-is = everywhere reservedCode reserved refl
+
+pub lacking-is : (a b : ℕ) → a < 64 → b < 256 → notModelled (rowAt a) a b ≡ lacking a b
+unfolding notModelled rowAt rowOf lineOf bits latchOfNibble lacking bit
+lacking-is = everywhere (λ a b. notModelled (rowAt a) a b) lacking refl
+
+-- ---- 4
+above : (n : ℕ) (t : Bool) → ltb n 2048 ≡ t → not t ≡ ltb 2047 n
+above n true e = let h = ltb-true n 2048 e in sym (le-ltb 2047 n (omega arith))
+above n false e = sym (lt-ltb 2047 n (ltb-false n 2048 e))
+
+below : (t : Bool) → not (pick t false true) ≡ either t false
+below true = refl
+below false = refl
+
+ends : (z : ℤ) → not (inRange z) ≡ either (ltZ z (negℤ (pos 2048))) (ltZ (pos 2047) z)
+ends (pos n) = above n (ltb n 2048) refl
+ends (negsuc n) = below (ltb 2047 n)
+
+less-ints : (t : Bool) {a b : ℤ} → ltZ a b ≡ t → Means t (a <ℤ b)
+less-ints true e = (λ h. ltZ-yes (subst T (sym e) tt), λ h. refl)
+less-ints false e = (no, λ h. absurd (subst T e (h .lt)))
+
+pub outside : (z : ℤ) → Means (not (inRange z)) (Outside z)
+outside z = rw (ends z) (or (less-ints (ltZ z (negℤ (pos 2048))) refl) (less-ints (ltZ (pos 2047) z) refl))
