@@ -1,0 +1,15 @@
+use borrow.Author.Tests.{ne-eqb}
+use Rattle.bench.specs.Bench.{kindOf}
+use Rattle.bench.proofs.kind_of.Statement.{statement}
+use Rattle.bench.proofs.kind_of.Tie as tie
+
+pub kind-of-spec : {M : Type 1} → statement M
+unfolding kindOf
+kind-of-spec =
+    tie.close
+    (tie.spec
+    (λ c. simp (c .match .keys1))
+    (λ c. simp (c .match .keys2))
+    (λ c. simp (c .match .keys3))
+    (λ c. simp (c .match .keys4))
+    (λ c. let r = c .match .rest in simp (ne-eqb _ _ (r .0 .0 .0 .1), ne-eqb _ _ (r .0 .0 .1), ne-eqb _ _ (r .0 .1), ne-eqb _ _ (r .1))))

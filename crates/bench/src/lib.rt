@@ -1,0 +1,154 @@
+// The thin entry of 01 for the bench harness: it borrows the harness's own record and updates it for one event.
+ghost use mathlib.Core.Path.{_≡_};
+ghost use lib.ListN.{length};
+ghost use prog.Memory.{size, align};
+ghost use Rattle.device.proofs.Device.Laws.{mir as deviceType};
+ghost use Rattle.device.specs.Device.{powerUp};
+ghost use Rattle.bench.specs.Bench.{kindOf, numberedOf, stepOf, stepBytes, pinsCode, levelCode};
+use benchlog::CYCLE;
+use benchlog::Found;
+use benchlog::READ;
+use benchlog::SAMPLE;
+use benchlog::WRITE;
+use device::Answered;
+use device::Device;
+use device::Level;
+
+// The kind of an event.
+enum Kind {
+    Write,
+    Read,
+    Sample,
+    CycleStart,
+    Unknown,
+}
+
+// The number of an event's answer, and the device after it.
+pub struct Stepped {
+    pub number: u8,
+    pub device: Device,
+}
+
+// The kind of a number, as in the log.
+fn kind_of(number: u8) -> Kind
+    ensures { λ r. ⌜ r ≡ kindOf number ⌝ }
+{
+    match number {
+        WRITE => Kind::Write,
+        READ => Kind::Read,
+        SAMPLE => Kind::Sample,
+        CYCLE => Kind::CycleStart,
+        _ => Kind::Unknown,
+    }
+}
+
+fn numbered(done: Answered) -> Stepped
+    ensures { λ r. ⌜ r ≡ numberedOf done ⌝ }
+{
+    let answer = done.answer;
+    let device = done.device;
+    Stepped {
+        number: registers::number_of(answer),
+        device,
+    }
+}
+
+// One event, by its kind in the log: a write of a byte, a read of as many bytes as the buffer has, a sample whose temperature is the
+// byte, or the start of a cycle. Any other kind is refused.
+pub fn step(
+    device: Device,
+    kind: u8,
+    address: u8,
+    byte: u8,
+    x: i16,
+    y: i16,
+    z: i16,
+    buffer: &mut [u8],
+) -> Stepped
+    ensures { λ r. ⌜ (r ≡ stepOf device kind address byte x y z (length (now (buffer .entry)))) × (now (buffer .exit) ≡ stepBytes device kind address (now (buffer .entry))) ⌝ }
+{
+    let kind = kind_of(kind);
+    match kind {
+        Kind::Write => numbered(device.write(address, byte)),
+        Kind::Read => numbered(device.read(address, buffer)),
+        Kind::Sample => numbered(device.sample(x, y, z, byte)),
+        Kind::CycleStart => numbered(device.start_cycle()),
+        Kind::Unknown => Stepped {
+            number: benchlog::number_of(Found::WrongRecord),
+            device,
+        },
+    }
+}
+
+// 0 for low, 1 for high, 2 for released.
+fn level_code(level: Level) -> u8
+    ensures { λ r. ⌜ r ≡ levelCode level ⌝ }
+{
+    match level {
+        Level::Low => 0,
+        Level::High => 1,
+        Level::Released => 2,
+    }
+}
+
+// Both pin levels in one byte: INT1 in bits 1:0, INT2 in bits 3:2.
+pub fn pins_code(device: Device) -> u8
+    ensures { λ r. ⌜ r ≡ pinsCode device ⌝ }
+{
+    let pins = device.pins();
+    let first = pins.int1;
+    let second = pins.int2;
+    level_code(first) + 4 * level_code(second)
+}
+
+// One event, on the harness's own record.
+#[no_mangle]
+pub extern "C" fn twin_event(
+    d: &mut Device,
+    kind: u8,
+    address: u8,
+    byte: u8,
+    x: i16,
+    y: i16,
+    z: i16,
+    buffer: &mut [u8],
+) -> u8
+    ensures { λ r. ⌜ (r ≡ stepOf (now (d .entry)) kind address byte x y z (length (now (buffer .entry))) .number)
+        × (now (d .exit) ≡ stepOf (now (d .entry)) kind address byte x y z (length (now (buffer .entry))) .device)
+        × (now (buffer .exit) ≡ stepBytes (now (d .entry)) kind address (now (buffer .entry))) ⌝ }
+{
+    let s = step(*d, kind, address, byte, x, y, z, buffer);
+    *d = s.device;
+    s.number
+}
+
+// Power-up of the harness's own record.
+#[no_mangle]
+pub extern "C" fn twin_power_up(d: &mut Device)
+    ensures { λ _. ⌜ now (d .exit) ≡ powerUp ⌝ }
+{
+    *d = Device::power_up();
+}
+
+// The pins of the harness's own record.
+#[no_mangle]
+pub extern "C" fn twin_pins(d: &Device) -> u8
+    ensures { λ r. ⌜ r ≡ pinsCode (now (d .entry)) ⌝ }
+{
+    pins_code(*d)
+}
+
+// The bytes of the record, and what its address must be a multiple of.
+#[no_mangle]
+pub extern "C" fn twin_size() -> usize
+    ensures { λ r. ⌜ r ≡ size deviceType ⌝ }
+{
+    312
+}
+
+#[no_mangle]
+pub extern "C" fn twin_alignment() -> usize
+    ensures { λ r. ⌜ r ≡ align deviceType ⌝ }
+{
+    8
+}
