@@ -41,6 +41,10 @@ enum twin_kind { TWIN_WRITE = 1, TWIN_READ = 2, TWIN_SAMPLE = 3, TWIN_CYCLE = 4 
 
 enum twin_level { TWIN_LOW = 0, TWIN_HIGH = 1, TWIN_RELEASED = 2 };
 
+/* The size and alignment of the library's record, proved: they are TWIN_SIZE and TWIN_ALIGN where header and library fit. */
+size_t twin_size(void);
+size_t twin_alignment(void);
+
 /* The record becomes that of a chip at power-up. */
 void twin_power_up(struct twin *twin);
 

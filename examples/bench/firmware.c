@@ -1,6 +1,5 @@
 /* Recorder firmware against the twin: a driver's usual start-up, a burst readout, and an overrun that is noticed. */
 #include <stdio.h>
-#include <string.h>
 #include "twin.h"
 
 enum { CHIP_ID = 0x00, FIFO_STATUS = 0x0E, RANGE = 0x0F, BANDWIDTH = 0x10, SOFT_RESET = 0x14, INT_ENABLE = 0x17, INT_MAP = 0x1A,
@@ -51,12 +50,7 @@ static void samples(int from, int n) {
 }
 
 int main(void) {
-    struct { struct twin record; uint8_t behind[64]; } lent;
-    memset(&lent, 0, sizeof lent);
-    memset(lent.behind, 0x5A, sizeof lent.behind);
-    twin_power_up(&lent.record);
-    for (size_t i = 0; i < sizeof lent.behind; i++)
-        if (lent.behind[i] != 0x5A) return printf("the library's record is larger than the header's\n"), 1;
+    if (twin_size() != sizeof chip || twin_alignment() != _Alignof(struct twin)) return printf("header and library do not fit\n"), 1;
     twin_power_up(&chip);
     if (!start()) return printf("the start-up failed\n"), 1;
     bus_write(RANGE, 0x07); /* a code that the sheet does not define */
