@@ -1,0 +1,53 @@
+-- What demand 3 refuses: 01's "Try these against it". It leaves one answer at 0x0E and at 0x3F.
+-- Assumes nothing.
+use Prim.Native.Nat.{ℕ}
+use mathlib.Core.Bool.{true}
+use mathlib.Core.List.{List, [], _∷_}
+use mathlib.Core.Path.{_≡_, refl, sym, _∙_}
+use native.Mathlib.Omega.{arith}
+use lib.IntN.{pos}
+use Rattle.fifo.specs.Codes.{modeOf, axesOf}
+use Rattle.device.specs.Sample.{sampleAnswer}
+use Rattle.registers.specs.Refused.{answerAt, reservedCode, notModelled}
+use Rattle.registers.specs.Table.{rowAt, rowOf, lineOf, listed, lacking}
+use Rattle.history.specs.History.{Event, write, sample, clears, readsOut, control, since, Twin, twin}
+use Rattle.history.specs.Demand.{fates, status, Demand3}
+use Rattle.history.proofs.Conserve.{demand3}
+
+-- two twins that meet it after the events show the same at 0x0E, and give the same at 0x3F
+pub same-status : {t u : Twin} {es : List Event} → Demand3 t es → Demand3 u es → t es 0x0E 1 ≡ u es 0x0E 1
+same-status p q = p .shown ∙ sym (q .shown)
+
+pub same-readout : {t u : Twin} {es : List Event} → Demand3 t es → Demand3 u es → (n : ℕ) → readsOut 0x3F n ≡ true → t es 0x3F n ≡ u es 0x3F n
+same-readout p q n e = p .next n e ∙ sym (q .next n e)
+
+-- "one whose 0x0E is invented": it is the device's, or demand 3 is not met
+pub not-invented : {t : Twin} {es : List Event} → Demand3 t es → t es 0x0E 1 ≡ twin es 0x0E 1
+not-invented {es = es} p = same-status p (demand3 es)
+
+-- ---- two histories with the same first event, and bytes that differ
+abbrev begun : List Event
+begun = write 0x3E 0x40 ∷ []
+
+abbrev onward : List Event
+onward = sample (pos 0) (pos 0) (pos 0) 0 ∷ begun
+
+bytes : (status begun ≡ 0x00) × (status onward ≡ 0x01)
+unfolding status fates since control clears modeOf axesOf sampleAnswer answerAt reservedCode notModelled rowAt rowOf lineOf listed lacking
+bytes = (refl, refl)
+
+apart : {t u : List ℕ} → t ≡ status begun ∷ [] → u ≡ status onward ∷ [] → t ≡ u → ⊥
+apart p q e = let z : _≡_ {A = ℕ} 0 1 = cc (bytes .0, bytes .1) in omega arith
+
+-- a byte that is always the same
+pub constant-fails : (t : Twin) (b : List ℕ) → ((es : List Event) → t es 0x0E 1 ≡ b) → ((es : List Event) → Demand3 t es) → ⊥
+constant-fails t b same meets = apart (meets begun .shown) (meets onward .shown) (same begun ∙ sym (same onward))
+
+-- "one that does its first event and pretends afterwards"
+abbrev pub firstOf : List Event → List Event
+firstOf [] = []
+firstOf (e ∷ []) = e ∷ []
+firstOf (e ∷ f ∷ es) = firstOf (f ∷ es)
+
+pub pretender-fails : (t : Twin) → ((es : List Event) → Demand3 (λ es. t (firstOf es)) es) → ⊥
+pretender-fails t meets = apart (meets begun .shown) (meets onward .shown) refl
