@@ -1,0 +1,8 @@
+pub mod Finite
+pub mod Bits
+pub mod Codes
+pub mod Writes
+pub mod Proper
+pub mod Past
+pub mod Registers
+pub mod Edges
