@@ -31,7 +31,6 @@ record Step : Type 0 where
   given : Given
 
 infix 90 _⇒_
-
 abbrev _⇒_ : Event → Given → Step
 e ⇒ g = record { event = e; given = g }
 

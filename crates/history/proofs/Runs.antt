@@ -50,9 +50,10 @@ pub runs : Ran fifoRun 0x9F ((0x01 ∷ 0x02 ∷ 0x01 ∷ 0x00 ∷ 0x01 ∷ 0x00 
     × Ran (write 0x3E 0xC0 ∷ bypassRun) 0x81 ((0x01 ∷ 0x00 ∷ 0x01 ∷ 0x00 ∷ 0x01 ∷ 0x00 ∷ []) ∷ []) []
     × Ran (write 0x14 0xB6 ∷ bypassRun) 0x00 [] []
 unfolding samples status fates gave twin since control clears readsOut frame after step powerUp firstBytes resetBytes noFrames zeros writeOf judged effectAt sampleOf afterAccepted flatPushed readOf readBytes flatRead bytesRead given device.given device.after byteFrom storedByte code modeOf axesOf sampleAnswer readAnswer answerAt reservedCode notModelled rowAt rowOf lineOf listed lacking
-runs =
-    (record { told = refl; lost = refl; shown = refl; came = refl },
-    record { told = refl; lost = refl; shown = refl; came = refl },
-    record { told = refl; lost = refl; shown = refl; came = refl },
-    record { told = refl; lost = refl; shown = refl; came = refl },
-    record { told = refl; lost = refl; shown = refl; came = refl })
+runs = (
+  record { told = refl; lost = refl; shown = refl; came = refl },
+  record { told = refl; lost = refl; shown = refl; came = refl },
+  record { told = refl; lost = refl; shown = refl; came = refl },
+  record { told = refl; lost = refl; shown = refl; came = refl },
+  record { told = refl; lost = refl; shown = refl; came = refl },
+)
