@@ -9,33 +9,37 @@ use native.Mathlib.Nat.{add-zero}
 use lib.Dec.{eqb, ltb}
 use lib.Bits.{bitAnd, and-zero-r}
 use lib.ListN.{length, getD}
-use borrow.Author.Tests.{eqb-true, ltb-true, le-ltb, lt-ltb, ne-eqb}
+use borrow.Author.Tests.{eqb-true, ltb-true, le-ltb, lt-ltb, eq-eqb, ne-eqb}
 use Rattle.laws.specs.Choice.{pick, both, either}
 use Rattle.laws.specs.Bits.{bit, worth}
 use Rattle.channels.specs.Channels as channels
+use Rattle.channels.specs.declared.Channels.{Channels}
 use Rattle.fifo.specs.Codes.{modeOf, depthIn, within}
 use Rattle.fifo.specs.Codes as fifo
 use Rattle.fifo.proofs.Codes.{depth-most}
 use Rattle.motion.specs.declared.Motion.{Motion}
-use Rattle.registers.specs.Table.{among, listed, reserved, lineOf, lacking, rowOf, rowAt, resetBytes}
+use Rattle.registers.specs.Table.{among, merged, listed, reserved, lineOf, lacking, rowOf, rowAt, resetBytes}
 use Rattle.registers.specs.Codes.{rangeOf, isReserved, latchOf, isModelled}
-use Rattle.registers.specs.Answers.{accepted}
+use Rattle.registers.specs.Answers.{number, accepted}
+use Rattle.registers.specs.Effects.{effectAt, judged}
+use Rattle.registers.specs.declared.Answer.the-variants.{Done}
 use Rattle.registers.specs.Refused.{readAnswer, writeAnswer, answerAt, reservedCode, notModelled, last}
 use Rattle.device.specs.Device.{chipNumber, firstBytes, powerUp, depth, reg}
 use Rattle.device.specs.Status.{shown, statusesAt, statuses, dataByte}
+use Rattle.device.specs.Write.{writeOf, softReset}
 use Rattle.device.specs.Read.{readOf, byteAt, byteFrom, storedByte, isData}
 use Rattle.device.specs.Read as device
 use Rattle.device.specs.Pins.{pinsOf, anyMapped}
 use Rattle.device.specs.declared.Device.{Device}
 use Rattle.device.specs.declared.status.Shown.{Shown}
-use Rattle.edges.specs.Run.{Event, read, Given, bytes, gives, next, onward, after}
-use Rattle.edges.specs.Rules.{byteNext, byteOnward, byteAfter, Past, pastAfter, interrupts, isTabled, writable, ruled, pinsFrom, Marked, Proper}
-use Rattle.edges.proofs.Finite.{picked, alike, all, each}
+use Rattle.edges.specs.Run.{Event, write, read, answer, bytes, gives, told, next, onward, after}
+use Rattle.edges.specs.Rules.{isReset, byteNext, byteOnward, byteAfter, Past, pastAfter, interrupts, isTabled, writable, isStored, ruled, pinsFrom, Marked, Proper}
+use Rattle.edges.proofs.Finite.{picked, alike, left, right, all, each}
 use Rattle.edges.proofs.Bits.{bit-merged, bit-clear}
 use Rattle.edges.proofs.Codes.{accepted-clear, first-clear, range-stored, mode-stored, latch-stored}
-use Rattle.edges.proofs.Writes.{reg-next}
+use Rattle.edges.proofs.Writes.{reset-answer, reset-reg, reg-next}
 use Rattle.edges.proofs.Proper.{proper, first-written, proper-next, proper-first}
-use Rattle.edges.proofs.Past.{past}
+use Rattle.edges.proofs.Past.{codesOf, past}
 
 -- ---- the stored bytes, from the events alone
 reg-onward : (d : Device) → Proper d → (a : ℕ) (es : List Event) → reg (onward d es) a ≡ byteOnward a (reg d a) es
@@ -208,3 +212,99 @@ module _ (es : List Event) where
   -- "others are refused 3"
   pub latch-known : isModelled (latchOf (byteAfter es 0x21)) ≡ true
   latch-known = let v = proper es .written 0x21 (omega arith) (settable 0x21 refl) in rw (← registers es 0x21, v .2) (latch-stored (v .0) (v .1))
+
+-- ---- the pins
+bits-apart : (p q r : Bool) → (bit 7 (worth 128 p + worth 64 q + worth 32 r) ≡ p) × (bit 6 (worth 128 p + worth 64 q + worth 32 r) ≡ q) × (bit 5 (worth 128 p + worth 64 q + worth 32 r) ≡ r)
+unfolding bit
+bits-apart true true true = (refl, refl, refl)
+bits-apart true true false = (refl, refl, refl)
+bits-apart true false true = (refl, refl, refl)
+bits-apart true false false = (refl, refl, refl)
+bits-apart false true true = (refl, refl, refl)
+bits-apart false true false = (refl, refl, refl)
+bits-apart false false true = (refl, refl, refl)
+bits-apart false false false = (refl, refl, refl)
+
+bit-alone : (b : Bool) → bit 2 (worth 4 b) ≡ b
+unfolding bit
+bit-alone true = refl
+bit-alone false = refl
+
+-- both levels are those that the bytes read say
+pub pins : (es : List Event) → pinsOf (after es) ≡ pinsFrom (ruled es)
+unfolding pinsOf anyMapped ruled statusesAt
+pins es =
+    let s = statuses (after es) in
+    let b = bits-apart (s .newdata) (s .watermark) (s .full) in
+    rw (← interrupts-are es, ← registers es 0x19, ← registers es 0x1A, ← registers es 0x1B, ← registers es 0x20, b .0, b .1, b .2, bit-alone (s .motion))
+
+-- ---- one write more
+-- an address that can be written is of the table, and not 0x14
+writable-away : (a : ℕ) → a < 64 → writable a ≡ true → (isTabled a ≡ true) × (eqb a 0x14 ≡ false)
+unfolding rowAt rowOf lineOf listed lacking reserved
+writable-away a h w =
+    let t = alike (λ i. pick (writable i) (isTabled i) true) (λ i. true) 64 refl a h in
+    let n = alike (λ i. pick (writable i) (eqb i 0x14) false) (λ i. false) 64 refl a h in
+    (rw w at t, rw w at n)
+
+module _ (es : List Event) (a byte : ℕ) where
+  -- the byte of an address of the table after it
+  read-next : (c : ℕ) → c < 0x3F → isTabled c ≡ true → gives (next (after es) (write a byte)) (read c 1) ≡ bytes (byteNext c (byteAfter es c) (write a byte) ∷ [])
+  read-next c h t =
+      let d = next (after es) (write a byte) in
+      let low : c < 64 = omega arith in
+      single d c h ∙ rw (tabled-byte d c low t, reg-next (after es) (proper es .long) c (write a byte), registers es c)
+
+  pub answered : gives (after es) (write a byte) ≡ answer (number (writeAnswer a byte))
+  unfolding writeOf judged
+  answered = refl
+
+  -- a write that is answered 0 reads back under its mask
+  pub write-reads : a < 0x3F → writable a ≡ true → writeAnswer a byte ≡ Done → told (after es) (write a byte ∷ read a 1 ∷ []) ≡ answer 0 ∷ bytes (merged (rowAt a) byte ∷ []) ∷ []
+  write-reads h w e =
+      let ok : accepted (writeAnswer a byte) ≡ true = ap accepted e in
+      let own : eqb a a ≡ true = eq-eqb a a refl in
+      let away = writable-away a (omega arith) w in
+      let back : gives (next (after es) (write a byte)) (read a 1) ≡ bytes (merged (rowAt a) byte ∷ []) = read-next a h (away .0) ∙ rw (away .1, ok, w, own) in
+      rw (answered, back, e)
+
+  -- a write changes no other register's byte, soft reset excepted
+  pub write-others : (c : ℕ) → c < 0x3F → isTabled c ≡ true → (c ≡ a → ⊥) → isReset a byte ≡ false → gives (next (after es) (write a byte)) (read c 1) ≡ gives (after es) (read c 1)
+  write-others c h t n r = read-next c h t ∙ rw (r, ne-eqb c a n) (go (isStored a byte)) ∙ sym (reads-tabled es c h t)
+    where
+      go : (s : Bool) → bytes (pick (both s false) (merged (rowAt a) byte) (byteAfter es c) ∷ []) ≡ bytes (byteAfter es c ∷ [])
+      go true = refl
+      go false = refl
+
+-- "14: 0xB6 is a soft reset: everything as at power-up, 0x3B and 0x3C excepted"
+reset-is : (d : Device) → next d (write 0x14 0xB6) ≡ softReset d
+unfolding writeOf judged effectAt answerAt rowAt rowOf lineOf listed lacking reserved reservedCode notModelled
+reset-is d = refl
+
+reset-byte : (d : Device) (c : ℕ) → among c (0x3B ∷ 0x3C ∷ []) ≡ false → byteAt (softReset d) c ≡ byteAt powerUp c
+unfolding byteFrom storedByte statusesAt powerUp
+reset-byte d c n = rw (reset-reg (d .regs) 0x17, reset-reg (d .regs) 0x30, reset-reg (d .regs) 0x3E, reset-reg (d .regs) c, n)
+
+module _ (es : List Event) where
+  pub reset-reads : (c : ℕ) → c < 0x3F → among c (0x3B ∷ 0x3C ∷ []) ≡ false → told (after es) (write 0x14 0xB6 ∷ read c 1 ∷ []) ≡ answer 0 ∷ gives powerUp (read c 1) ∷ []
+  reset-reads c h n =
+      let back : gives (next (after es) (write 0x14 0xB6)) (read c 1) ≡ gives powerUp (read c 1) =
+      rw (reset-is (after es), single (softReset (after es)) c h, single powerUp c h, reset-byte (after es) c n) in
+      rw (answered es 0x14 0xB6, back, reset-answer)
+
+  pub reset-keeps : (c : ℕ) → among c (0x3B ∷ 0x3C ∷ []) ≡ true → told (after es) (write 0x14 0xB6 ∷ read c 1 ∷ []) ≡ answer 0 ∷ gives (after es) (read c 1) ∷ []
+  reset-keeps c n =
+      let e = each (λ a. both (ltb a 0x3F) (isTabled a)) (0x3B ∷ 0x3C ∷ []) refl c n in
+      let h = ltb-true c 0x3F (left (ltb c 0x3F) (isTabled c) e) in
+      let t = right (ltb c 0x3F) (isTabled c) e in
+      let back : gives (next (after es) (write 0x14 0xB6)) (read c 1) ≡ gives (after es) (read c 1) = read-next es 0x14 0xB6 c h t ∙ rw n (sym (reads-tabled es c h t)) in
+      rw (answered es 0x14 0xB6, back, reset-answer)
+
+-- ---- "Data channels"
+module _ (es : List Event) where
+  abbrev now : Channels
+  now = after es .channels
+
+  -- the present sample is the last accepted one
+  present : codesOf (after es .channels) ≡ pastAfter es .codes
+  present = ap (λ (p : Past). p .codes) (past es)

@@ -16,7 +16,7 @@ use Rattle.registers.specs.Table.{rowAt, rowOf, lineOf, listed, lacking, reserv
 use Rattle.registers.specs.Answers.{accepted}
 use Rattle.registers.specs.Refused.{writeAnswer, readAnswer, last, answerAt, reservedCode, notModelled}
 use Rattle.registers.specs.Effects.{restarting, effectAt, judged, stores, resets, empties}
-use Rattle.registers.specs.declared.table.Row.{Row}
+use Rattle.registers.specs.declared.Answer.the-variants.{Done}
 use Rattle.registers.specs.declared.Effect.{Effect}
 use Rattle.registers.specs.declared.Effect.the-variants.{Nothing, Plain, Forget, Restart, Release, Empty, Reset}
 use Rattle.device.specs.Device.{firstBytes, powerUp, reg}
@@ -66,9 +66,9 @@ deeds-are true false = alike (λ a. deedsOf (effectBy true false a)) (deedsTold 
 deeds-are false true = alike (λ a. deedsOf (effectBy false true a)) (deedsTold true) 64 refl
 deeds-are false false = alike (λ a. deedsOf (effectBy false false a)) (deedsTold false) 64 refl
 
-reset-done : accepted (writeAnswer 0x14 0xB6) ≡ true
+pub reset-answer : writeAnswer 0x14 0xB6 ≡ Done
 unfolding answerAt rowAt rowOf lineOf listed lacking reserved reservedCode notModelled
-reset-done = refl
+reset-answer = refl
 
 module _ (a byte : ℕ) where
   -- a refused write is no soft reset
@@ -78,7 +78,7 @@ module _ (a byte : ℕ) where
       go : (r : Bool) → eqb a 0x14 ≡ r → (s : Bool) → eqb byte 0xB6 ≡ s → isReset a byte ≡ false
       go false f s g = rw f
       go true f false g = rw (f, g)
-      go true f true g = cc (eqb-true a 0x14 f, eqb-true byte 0xB6 g, reset-done)
+      go true f true g = cc (eqb-true a 0x14 f, eqb-true byte 0xB6 g, reset-answer)
 
   -- of any write
   effect-is : deedsOf (judged a byte .effect) ≡ (isStored a byte, isReset a byte, either (isReset a byte) (both (isStored a byte) (eqb 0x3E a)))
@@ -111,7 +111,7 @@ getD-set l a v c h = go (eqb c a) refl
     go false e = rw e (getD-set-other l a c v 0 (eqb-false c a e))
 
 -- "everything as at power-up, 0x3B and 0x3C excepted"
-reset-reg : (regs : List ℕ) (c : ℕ) → getD (afterReset regs) c 0 ≡ pick (among c (0x3B ∷ 0x3C ∷ [])) (getD regs c 0) (getD firstBytes c 0)
+pub reset-reg : (regs : List ℕ) (c : ℕ) → getD (afterReset regs) c 0 ≡ pick (among c (0x3B ∷ 0x3C ∷ [])) (getD regs c 0) (getD firstBytes c 0)
 reset-reg regs c =
     let first = set firstBytes 0x3B (getD regs 0x3B 0) in
     getD-set first 0x3C (getD regs 0x3C 0) c (omega (arith, first-length, length-set firstBytes 0x3B (getD regs 0x3B 0)))
