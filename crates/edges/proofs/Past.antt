@@ -29,7 +29,7 @@ use Rattle.edges.proofs.Finite.{picked, of-pick}
 use Rattle.edges.proofs.Writes.{resets-is}
 
 -- what a device shows of the samples so far
-abbrev pub codesOf : Channels → Codes
+abbrev codesOf : Channels → Codes
 codesOf c = record { x = c .x .code; y = c .y .code; z = c .z .code }
 
 abbrev pub seen : Device → Past

@@ -1,6 +1,6 @@
 -- Demand 2: after any events from power-up on, each address below 0x3F reads what its rule in 01 says, and so do the pins.
 -- Assumes nothing.
-use Prim.Native.Nat.{ℕ, _+_, _%_, _<_, _≤_, min}
+use Prim.Native.Nat.{ℕ, _+_, _/_, _%_, _^_, _<_, _≤_, min}
 use mathlib.Core.Bool.{Bool, true, false, not}
 use mathlib.Core.Path.{_≡_, refl, sym, ap, _∙_}
 use mathlib.Core.List.{List, [], _∷_}
@@ -13,7 +13,6 @@ use borrow.Author.Tests.{eqb-true, ltb-true, le-ltb, lt-ltb, eq-eqb, ne-eqb}
 use Rattle.laws.specs.Choice.{pick, both, either}
 use Rattle.laws.specs.Bits.{bit, worth}
 use Rattle.channels.specs.Channels as channels
-use Rattle.channels.specs.declared.Channels.{Channels}
 use Rattle.fifo.specs.Codes.{modeOf, depthIn, within}
 use Rattle.fifo.specs.Codes as fifo
 use Rattle.fifo.proofs.Codes.{depth-most}
@@ -33,13 +32,13 @@ use Rattle.device.specs.Pins.{pinsOf, anyMapped}
 use Rattle.device.specs.declared.Device.{Device}
 use Rattle.device.specs.declared.status.Shown.{Shown}
 use Rattle.edges.specs.Run.{Event, write, read, answer, bytes, gives, told, next, onward, after}
-use Rattle.edges.specs.Rules.{isReset, byteNext, byteOnward, byteAfter, Past, pastAfter, interrupts, isTabled, writable, isStored, ruled, pinsFrom, Marked, Proper}
+use Rattle.edges.specs.Rules.{isReset, byteNext, byteOnward, byteAfter, Past, pastAfter, dataWith, interrupts, isTabled, writable, isStored, ruled, pinsFrom, Marked, Proper}
 use Rattle.edges.proofs.Finite.{picked, alike, left, right, all, each}
 use Rattle.edges.proofs.Bits.{bit-merged, bit-clear}
 use Rattle.edges.proofs.Codes.{accepted-clear, first-clear, range-stored, mode-stored, latch-stored}
 use Rattle.edges.proofs.Writes.{reset-answer, reset-reg, reg-next}
 use Rattle.edges.proofs.Proper.{proper, first-written, proper-next, proper-first}
-use Rattle.edges.proofs.Past.{codesOf, past}
+use Rattle.edges.proofs.Past.{past}
 
 -- ---- the stored bytes, from the events alone
 reg-onward : (d : Device) → Proper d → (a : ℕ) (es : List Event) → reg (onward d es) a ≡ byteOnward a (reg d a) es
@@ -70,6 +69,10 @@ marks-small m h =
     let l : List ℕ = pick (m .status) (1 ∷ 2 ∷ 4 ∷ []) (0 ∷ []) in
     ltb-true (m .mark) 8 (each small l (picked (λ k. all small k ≡ true) (m .status) refl refl) (m .mark) h)
 
+data-are : (es : List Event) (a : ℕ) → channels.byteAt (after es .channels) a ≡ dataWith (after es .channels) (pastAfter es .codes) a
+unfolding channels.byteAt dataWith
+data-are es a = ap (λ (p : Past). dataWith (after es .channels) (p .codes) a) (past es)
+
 interrupts-are : (es : List Event) → dataByte (statuses (after es)) ≡ interrupts es
 unfolding statusesAt interrupts
 interrupts-are es = rw (registers es 0x17, registers es 0x30, registers es 0x3E, few-held es, ap (λ (p : Past). p .came) (past es))
@@ -78,7 +81,7 @@ byte-ruled : (es : List Event) (a : ℕ) → a < 64 → byteAt (after es) a ≡ 
 unfolding byteFrom storedByte ruled statusesAt
 byte-ruled es a h =
     let m : after es .motion .mark % 8 ≡ after es .motion .mark = omega (arith, marks-small (after es .motion) (proper es .marked)) in
-    rw (interrupts-are es, few-held es, m, lt-ltb a 64 h, registers es a, ap (λ (p : Past). p .temperature) (past es))
+    rw (data-are es a, interrupts-are es, few-held es, m, lt-ltb a 64 h, registers es a, ap (λ (p : Past). p .temperature) (past es))
 
 pub reads : (es : List Event) (a : ℕ) → a < 0x3F → gives (after es) (read a 1) ≡ bytes (ruled es a ∷ [])
 reads es a h = single (after es) a h ∙ rw (byte-ruled es a (omega arith))
@@ -173,6 +176,24 @@ module _ (es : List Event) where
   pub reads-frames : (gives (after es) (read 0x0E 1) ≡ bytes ((worth 128 (after es .fifo .overrun) + after es .fifo .count) ∷ [])) × (after es .fifo .count ≤ depthIn depth (modeOf (byteAfter es 0x3E)))
   unfolding ruled
   reads-frames = (reads es 0x0E (omega arith), rw (registers es 0x3E) at (proper es .few))
+
+  -- "overrun in bit 7, frame count in 6:0"
+  pub frames-apart : (bit 7 (ruled es 0x0E) ≡ after es .fifo .overrun) × (ruled es 0x0E % 128 ≡ after es .fifo .count)
+  unfolding ruled bit
+  frames-apart = go (after es .fifo .overrun) (after es .fifo .count) (omega (arith, proper es .few, depth-most depth (omega arith) (modeOf (reg (after es) 0x3E))))
+    where
+      go : (o : Bool) (c : ℕ) → c < 128 → (eqb ((worth 128 o + c) / 2 ^ 7 % 2) 1 ≡ o) × ((worth 128 o + c) % 128 ≡ c)
+      go true c h = (eq-eqb ((128 + c) / 2 ^ 7 % 2) 1 (omega arith), omega arith)
+      go false c h = (ne-eqb ((0 + c) / 2 ^ 7 % 2) 1 (omega arith), omega arith)
+
+  -- "0x0B bits 2:0 (z, y, x) mark the first over axis .., and bit 3 is 1 for a negative difference"
+  pub marks-apart : (bit 3 (ruled es 0x0B) ≡ after es .motion .falling) × (ruled es 0x0B % 8 ≡ after es .motion .mark) × (ruled es 0x0B < 16)
+  unfolding ruled bit
+  marks-apart = go (after es .motion .falling) (after es .motion .mark) (marks-small (after es .motion) (proper es .marked))
+    where
+      go : (f : Bool) (m : ℕ) → m < 8 → (eqb ((m + worth 8 f) / 2 ^ 3 % 2) 1 ≡ f) × ((m + worth 8 f) % 8 ≡ m) × (m + worth 8 f < 16)
+      go true m h = (eq-eqb ((m + 8) / 2 ^ 3 % 2) 1 (omega arith), omega arith, omega arith)
+      go false m h = (ne-eqb ((m + 0) / 2 ^ 3 % 2) 1 (omega arith), omega arith, omega arith)
 
   -- ---- the settings
   module _ (a : ℕ) (low : a < 64) where
@@ -299,12 +320,3 @@ module _ (es : List Event) where
       let t = right (ltb c 0x3F) (isTabled c) e in
       let back : gives (next (after es) (write 0x14 0xB6)) (read c 1) ≡ gives (after es) (read c 1) = read-next es 0x14 0xB6 c h t ∙ rw n (sym (reads-tabled es c h t)) in
       rw (answered es 0x14 0xB6, back, reset-answer)
-
--- ---- "Data channels"
-module _ (es : List Event) where
-  abbrev now : Channels
-  now = after es .channels
-
-  -- the present sample is the last accepted one
-  present : codesOf (after es .channels) ≡ pastAfter es .codes
-  present = ap (λ (p : Past). p .codes) (past es)

@@ -7,8 +7,9 @@ use lib.Dec.{eqb}
 use lib.ListN.{length}
 use Rattle.laws.specs.Choice.{pick, both, either}
 use Rattle.laws.specs.Bits.{bit, worth}
-use Rattle.channels.specs.Codes.{codes}
-use Rattle.channels.specs.Channels as channels
+use Rattle.channels.specs.Codes.{codes, lsbOf, msbOf}
+use Rattle.channels.specs.declared.Channel.{Channel}
+use Rattle.channels.specs.declared.Channels.{Channels}
 use Rattle.channels.specs.declared.Codes.{Codes}
 use Rattle.fifo.specs.Codes.{modeOf, depthIn}
 use Rattle.motion.specs.declared.Motion.{Motion}
@@ -81,6 +82,24 @@ abbrev pub pastAfter : List Event → Past
 pastAfter es = pastOnward noPast es
 
 -- ---- the byte that each address below 0x3F reads
+-- of a channel and the code of the present sample: "The LSB register holds its low four bits in 7:4, 0 in 3:1 and the new-data
+-- bit in 0; the MSB register holds the upper eight"; "Reading the MSB gives the locked byte .., or the present one"
+abbrev pub lsbWith : Channel → ℕ → ℕ
+lsbWith c code = lsbOf (c .fresh) code
+
+abbrev pub msbWith : Channel → ℕ → ℕ
+msbWith c code = pick (c .locked) (c .held) (msbOf code)
+
+unfoldable pub dataWith : Channels → Codes → ℕ → ℕ
+dataWith c k a =
+    pick (eqb a 0x02) (lsbWith (c .x) (k .x))
+    (pick (eqb a 0x03) (msbWith (c .x) (k .x))
+    (pick (eqb a 0x04) (lsbWith (c .y) (k .y))
+    (pick (eqb a 0x05) (msbWith (c .y) (k .y))
+    (pick (eqb a 0x06) (lsbWith (c .z) (k .z))
+    (pick (eqb a 0x07) (msbWith (c .z) (k .z))
+    0)))))
+
 -- "data (0x0A bit 7)", "watermark (0x0A bit 6)", "full (0x0A bit 5)", of the bytes of 0x17, 0x30 and 0x3E
 unfoldable pub interrupts : List Event → ℕ
 interrupts es =
@@ -93,8 +112,8 @@ interrupts es =
 
 unfoldable pub ruled : List Event → ℕ → ℕ
 ruled es a =
-    -- 0x02 to 0x07, "Data channels"
-    pick (isData a) (channels.byteAt (after es .channels) a)
+    -- 0x02 to 0x07, of the last accepted sample
+    pick (isData a) (dataWith (after es .channels) (pastAfter es .codes) a)
     -- "A sample sets .. 0x08"
     (pick (eqb a 0x08) (pastAfter es .temperature)
     -- "any-motion (0x09 bit 2)"

@@ -13,7 +13,7 @@ use Rattle.laws.specs.Bits.{bit, worth}
 use Rattle.laws.specs.Bytes.{given, zeros}
 use Rattle.laws.proofs.Bytes.{length-zeros}
 use Rattle.fifo.specs.Codes.{modeOf, axesOf, sizeOf, room}
-use Rattle.fifo.specs.Flat.{flat, packed}
+use Rattle.fifo.specs.Flat.{flat, packed, fifoOf}
 use Rattle.fifo.specs.Ledger as ledger
 use Rattle.fifo.specs.Ledger.{marks, run, heldOf, lostOf, heldIn}
 use Rattle.fifo.specs.Queue.{Queue, reached}
@@ -65,14 +65,11 @@ module _ {c : ℕ} {q : Queue (List ℕ)} {d : Device} (h : Holds c q d) where
   status-read b = rw (h .has .same, count-packed (h .fits))
 
   -- the bytes of a readout
-  held-read : (buffer : List ℕ) → readsOut 0x3F (length buffer) ≡ true → readBytes d 0x3F buffer ≡ given (length buffer) (flat (q .frames))
-  unfolding readBytes readsOut
-  held-read buffer e =
-      let ok : accepted (readAnswer 0x3F (length buffer)) ≡ true = both-true _ _ e .0 in
-      rw (ok, h .has .control, h .has .same) (bytes-packed (h .fits) (length buffer))
-
   held-given : (n : ℕ) → readsOut 0x3F n ≡ true → readBytes d 0x3F (zeros n) ≡ given n (flat (q .frames))
-  held-given n e = rw length-zeros at (held-read (zeros n) (rw length-zeros e))
+  unfolding readBytes readsOut
+  held-given n e =
+      let ok : accepted (readAnswer 0x3F n) ≡ true = both-true _ _ e .0 in
+      rw (length-zeros, ok, h .has .control, h .has .same) (bytes-packed (h .fits) n)
 
   -- they are those of the frames that it reaches
   taken-given : (n : ℕ) → readsOut 0x3F n ≡ true → readBytes d 0x3F (zeros n) ≡ given n (flat (take (reached (sizeOf (axesOf c)) n) (q .frames)))
@@ -81,6 +78,18 @@ module _ {c : ℕ} {q : Queue (List ℕ)} {d : Device} (h : Holds c q d) where
 -- ---- any events
 some : (es : List Event) → setting es .drops ≡ Oldest → 1 ≤ setting es .depth
 some es = depth-some depth (omega arith) (modeOf (control es))
+
+-- the frames that the device holds are those of the held samples, the oldest first
+pub device-holds : (es : List Event) → after es .fifo ≡ fifoOf (packed room (record { frames = heldOf (fates es); overrun = ltb 0 (length (lostOf (fates es))) }))
+unfolding fates queueAt
+device-holds es =
+    let g = conserved (setting es) (some es) (since es) in
+    told es .has .same ∙ (λ i. fifoOf (packed room (record { frames = g .frames i; overrun = (g .overrun ∙ any-lost (marks (setting es) (since es))) i })))
+
+-- the bytes that the twin gives are in any lent buffer
+pub any-buffer : (es : List Event) (a : ℕ) (buffer : List ℕ) → accepted (readAnswer a (length buffer)) ≡ true → readBytes (after es) a buffer ≡ twin es a (length buffer)
+unfolding twin readBytes
+any-buffer es a buffer e = rw (length-zeros, e)
 
 -- the bytes of one readout
 out-given : (es : List Event) (a n : ℕ) → readsOut a n ≡ true → twin es a n ≡ given n (flat (take (reached (setting es .size) n) (heldOf (marks (setting es) (since es)))))
@@ -140,7 +149,7 @@ demand3 es =
     record {
       each = g .whole;
       numbers = ap length (sym (g .whole)) ∙ numbers ms ∙ rw held;
-      lost = λ later earlier f e. rw e (lost-in (modeOf (control es)) (axesOf (control es)) (h .mode) earlier f later);
+      lost = λ later earlier f e. rw e (lost-in 31 (axesOf (control es)) earlier f later (modeOf (control es)) (h .mode));
       taken = frames-out s (some es) (since es) ∙ g .out;
       out = gives es;
       next = λ n e. held-given h n e ∙ rw (g .frames);

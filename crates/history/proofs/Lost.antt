@@ -111,10 +111,10 @@ module _ {A : Type 0} (d size : ℕ) (earlier : List (Event A)) (a : A) where
       let e : arrivals (w .between) ≡ d = omega (arith, w .arrived) in
       rw (w .split) (still-lost (w .after) (sample (w .last) ∷ w .between) (rw (← e) (held-lost a (arrivals (w .between)) (marks oldest (w .between ++ (sample a ∷ earlier))) (w .unreached))))
 
--- ---- in each mode
-pub lost-in : (m : Mode) (axes : Axes) → isReserved m ≡ false → {A : Type 0} (earlier : List (Event A)) (a : A) (later : List (Event A))
-    → (fate (settingOf 32 m axes) earlier a later ≡ some (lost a)) ↔ LostIn (settingOf 32 m axes) earlier a m later
-lost-in Bypass axes r earlier a later = (saw 0 (sizeOf axes) earlier a later, seen 0 (sizeOf axes) earlier a later)
-lost-in Fifo axes r earlier a later = newcomer-lost 32 (sizeOf axes) earlier a later
-lost-in Stream axes r earlier a later = (saw 31 (sizeOf axes) earlier a later, seen 31 (sizeOf axes) earlier a later)
-lost-in Reserved axes r earlier a later = let z : _≡_ {A = ℕ} 0 1 = cc in absurd (omega arith)
+-- ---- in each mode, on a chip of any depth
+module _ (n : ℕ) (axes : Axes) {A : Type 0} (earlier : List (Event A)) (a : A) (later : List (Event A)) where
+  pub lost-in : (m : Mode) → isReserved m ≡ false → (fate (settingOf (suc n) m axes) earlier a later ≡ some (lost a)) ↔ LostIn (settingOf (suc n) m axes) earlier a (suc n) m later
+  lost-in Bypass r = (saw 0 (sizeOf axes) earlier a later, seen 0 (sizeOf axes) earlier a later)
+  lost-in Fifo r = newcomer-lost (suc n) (sizeOf axes) earlier a later
+  lost-in Stream r = (saw n (sizeOf axes) earlier a later, seen n (sizeOf axes) earlier a later)
+  lost-in Reserved r = let z : _≡_ {A = ℕ} 0 1 = cc in absurd (omega arith)

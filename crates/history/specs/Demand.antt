@@ -18,6 +18,7 @@ use Rattle.fifo.specs.Ledger as fifo
 use Rattle.fifo.specs.Ledger.{Mark, marks, allOf, takenOf, heldOf, lostOf}
 use Rattle.fifo.specs.Queue.{reached}
 use Rattle.fifo.specs.declared.Setting.{Setting}
+use Rattle.device.specs.Device.{depth}
 use Rattle.history.specs.History.{Event, powerUp, write, read, sample, cycle, clears, readsOut, control, setting, since, Twin}
 use Rattle.history.specs.Lost.{arrivals, LostIn}
 
@@ -67,7 +68,7 @@ pub record Demand3 (t : Twin) (es : List Event) : Type 0 where
   pub numbers : length (fifo.accepted (since es)) ≡ length (takenOf (fates es)) + length (heldOf (fates es)) + length (lostOf (fates es))
   -- "with 'lost' as 01 defines it": of a sample with what came before it and after it, by the mode
   pub lost : (later earlier : List (fifo.Event (List ℕ))) (f : List ℕ) → since es ≡ later ++ (fifo.sample f ∷ earlier)
-      → (getElem? (fates es) (arrivals later) ≡ some (fifo.lost f)) ↔ LostIn (setting es) earlier f (modeOf (control es)) later
+      → (getElem? (fates es) (arrivals later) ≡ some (fifo.lost f)) ↔ LostIn (setting es) earlier f depth (modeOf (control es)) later
   -- "frames come out oldest first, each once": the frames that the readouts take are those of the taken samples, in order, and the
   -- bytes that the twin gave are theirs; those of the held come next
   pub taken : framesOf (readouts (setting es) (since es)) ≡ takenOf (fates es)

@@ -31,9 +31,9 @@ module _ {A : Type 0} (s : Setting) (earlier : List (Event A)) (a : A) where
     pub arrived : suc (arrivals between) ≡ many
     pub unreached : fate between ≡ some (held a)
 
-  -- no write of the reserved mode is accepted
-  abbrev pub LostIn : Mode → List (Event A) → Type 0
-  LostIn Fifo later = heldIn (marks s earlier) ≡ 32
-  LostIn Stream later = Saw 32 later
-  LostIn Bypass later = Saw 1 later
-  LostIn Reserved later = ⊥
+  -- on a chip of depth full; no write of the reserved mode is accepted
+  abbrev pub LostIn : ℕ → Mode → List (Event A) → Type 0
+  LostIn full Fifo later = heldIn (marks s earlier) ≡ full
+  LostIn full Stream later = Saw full later
+  LostIn full Bypass later = Saw 1 later
+  LostIn full Reserved later = ⊥
