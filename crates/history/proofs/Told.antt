@@ -26,7 +26,7 @@ use Rattle.registers.specs.Answers.{accepted}
 use Rattle.registers.specs.Refused.{writeAnswer, readAnswer, answerAt, reservedCode, last}
 use Rattle.device.specs.Device.{depth}
 use Rattle.device.specs.Device as device
-use Rattle.device.specs.Read as read
+use Rattle.device.specs.Read as burst
 use Rattle.device.specs.Read.{readOf, afterReadout}
 use Rattle.device.specs.Sample.{sampleAnswer, sampleOf, afterAccepted, cycleOf, frameOf}
 use Rattle.device.specs.Write.{writeOf}
@@ -134,7 +134,7 @@ module _ {c : ℕ} {q : Queue (List ℕ)} {d : Device} (h : Holds c q d) where
     mode = h .mode;
   }
 
-  after-burst : (a n : ℕ) → Holds c q (read.after d a n)
+  after-burst : (a n : ℕ) → Holds c q (burst.after d a n)
   after-burst a n = rw (after-is d a n) record { has = h .has; fits = h .fits; mode = h .mode }
 
 -- ---- any events

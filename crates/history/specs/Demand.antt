@@ -22,13 +22,13 @@ use Rattle.device.specs.Device.{depth}
 use Rattle.history.specs.History.{Event, powerUp, write, read, sample, cycle, clears, readsOut, control, setting, since, Twin}
 use Rattle.history.specs.Lost.{arrivals, LostIn}
 
--- what became of each sample accepted since the last clear, the latest first: a mark is one of taken, held and lost.
--- "lost" is `arrives` of the ledger
+-- what became of each sample accepted since the last clear, the latest first: a mark is one of taken, held and lost. The ledger's
+-- `arrives` says which are lost, and the field `lost` below says it again in 01's words
 unfoldable pub fates : List Event → List (Mark (List ℕ))
 fates es = marks (setting es) (since es)
 
 -- ---- readouts
--- its length, and the frames that it takes
+-- a readout: its length, and the frames that it takes
 pub record Readout : Type 0 where
   pub bytes : ℕ
   pub frames : List (List ℕ)

@@ -65,6 +65,9 @@ pub sample-when : (d : Device) (x y z : ℤ) (t n : ℕ) → (number (sampleOf d
 sample-when d x y z t n = ways (sample-exactly d x y z t n)
 
 -- ---- the rows in 01's words. "A write tests 1, 2, 3"
+pub write-1 : (d : Device) (a byte : ℕ) → (number (writeOf d a byte .answer) ≡ 1) ↔ AboveLast a
+write-1 d a byte = when (write-exactly d a byte 1) (less 0x3F a)
+
 module _ (d : Device) (a byte : ℕ) (fits : byte < 256) where
   within : ¬ AboveLast a → a < 64
   within h = omega arith
@@ -77,9 +80,6 @@ module _ (d : Device) (a byte : ℕ) (fits : byte < 256) where
 
   pub write-0 : (number (writeOf d a byte .answer) ≡ 0) ↔ (¬ AboveLast a × (¬ Reserved a byte × ¬ Lacking a byte))
   write-0 = when (write-exactly d a byte 0) (and (isnt (less 0x3F a)) (λ h. and (isnt (is-reserved h)) (λ _. last (isnt (is-lacking h)))))
-
-  pub write-1 : (number (writeOf d a byte .answer) ≡ 1) ↔ AboveLast a
-  write-1 = when (write-exactly d a byte 1) (less 0x3F a)
 
   pub write-2 : (number (writeOf d a byte .answer) ≡ 2) ↔ (¬ AboveLast a × Reserved a byte)
   write-2 = when (write-exactly d a byte 2) (and (isnt (less 0x3F a)) is-reserved)
@@ -162,7 +162,7 @@ nothing-else = record {
   cycle = cycle-done;
   version = version-answers;
   entry = read-answers;
-  written = write-answers;
+  room = write-answers;
 }
 
 -- each of 0 to 10 is given somewhere, whatever the device

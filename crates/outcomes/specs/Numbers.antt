@@ -81,4 +81,4 @@ pub record NothingElse : Type 0 where
   pub cycle : (d : Device) → number (cycleOf d .answer) ≡ 0
   pub version : (s : List ℕ) → isIn (0 ∷ 7 ∷ 9 ∷ []) (log.number (readVersion s .found)) ≡ true
   pub entry : (s : List ℕ) (place : ℕ) → isIn (0 ∷ 8 ∷ 9 ∷ []) (log.number (readAt s place .found)) ≡ true
-  pub written : (out : List ℕ) (place : ℕ) (bs : List ℕ) → isIn (0 ∷ 10 ∷ []) (log.roomNumber (written out place bs .room)) ≡ true
+  pub room : (out : List ℕ) (place : ℕ) (bs : List ℕ) → isIn (0 ∷ 10 ∷ []) (log.roomNumber (written out place bs .room)) ≡ true
