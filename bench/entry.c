@@ -1,10 +1,12 @@
-/* An event through the thin entry, or through the C twin's call, many times: for bench/run. use: entry COUNT */
+/* An event through the thin entry, or through the C twin's call, many times: for bench/run. use: entry COUNT, or
+ * entry size for the record's bytes. */
 #include <stdio.h>
 #include <stdlib.h>
 #include <string.h>
 #include EVENTS
 
 int main(int argc, char **argv) {
+    if (argc > 1 && strcmp(argv[1], "size") == 0) return printf("%zu\n", record_size()) < 0;
     long n = argc > 1 ? atol(argv[1]) : 1000000;
     uint8_t buffer[192];
     unsigned long sum = 0;

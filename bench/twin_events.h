@@ -1,5 +1,6 @@
 #include "../include/twin.h"
 static struct twin it;
+static size_t record_size(void) { return twin_size(); }
 static void begin(void) { twin_power_up(&it); }
 static unsigned event_write(uint8_t a, uint8_t b) { return twin_write(&it, a, b); }
 static unsigned event_read(uint8_t a, uint8_t *p, size_t n) { return twin_read(&it, a, p, n); }
