@@ -1,26 +1,23 @@
 -- An accepted write leaves no reserved code, no setting that is not modelled, and no bit that is refused.
 -- Assumes nothing.
-use Prim.Native.Nat.{ℕ, _/_, _%_, _^_, _<_}
-use mathlib.Core.Bool.{Bool, true, false, not}
-use mathlib.Core.Path.{_≡_, refl, sym, ap, _∙_}
+use Prim.Native.Nat.{ℕ, _/_, _%_, _<_}
+use mathlib.Core.Bool.{Bool, true, false}
+use mathlib.Core.Path.{_≡_, refl, _∙_}
 use native.Mathlib.Omega.{arith}
 use lib.Dec.{eqb, ltb}
-use lib.Bits.{bitAnd, bitOr, and-zero-r, or-zero-r, and-mask, and-shr}
+use lib.Bits.{bitAnd, and-zero-r, or-zero-r, and-mask, and-shr}
 use borrow.Author.Tests.{eqb-true, not-false}
-use Rattle.laws.specs.Choice.{pick, both}
-use Rattle.laws.specs.Bits.{bit}
+use Rattle.laws.specs.Choice.{pick}
 use Rattle.fifo.specs.Codes.{modeOf}
 use Rattle.fifo.specs.Codes as fifo
 use Rattle.fifo.specs.declared.Mode.the-variants.{Bypass, Fifo, Stream, Reserved}
 use Rattle.registers.specs.Table.{rowAt, rowOf, lineOf, listed, lacking, reserved, resetBytes, merged}
 use Rattle.registers.specs.Answers.{accepted}
-use Rattle.registers.specs.Codes.{rangeOf, isReserved, latchOf, latchOfNibble, isModelled}
+use Rattle.registers.specs.Codes.{rangeOf, isReserved, latchOf, isModelled}
 use Rattle.registers.specs.Refused.{writeAnswer, answerAt, reservedCode, notModelled, last}
 use Rattle.device.specs.Device.{firstBytes, powerUp, reg}
-use Rattle.registers.specs.declared.Answer.{Answer}
 use Rattle.registers.specs.declared.Answer.the-variants.{Done, NoAddress, ReservedCode, NotModelled}
 use Rattle.edges.proofs.Finite.{alike}
-use Rattle.edges.proofs.Bits.{bit-and}
 
 module _ (a byte : ℕ) (h : accepted (writeAnswer a byte) ≡ true) where
   -- neither 2 nor 3 is due

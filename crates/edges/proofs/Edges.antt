@@ -22,8 +22,7 @@ use Rattle.device.specs.Status.{statusesAt}
 use Rattle.device.specs.Write.{writeOf}
 use Rattle.device.specs.Read as reads
 use Rattle.device.specs.Sample.{sampleAnswer, afterAccepted, sampleOf, cycleOf}
-use Rattle.edges.specs.Run.{Event, power, write, read, sample, cycle, Given, answer, bytes, told}
-use Rattle.device.specs.declared.Device.{Device}
+use Rattle.edges.specs.Run.{Event, write, read, sample, Given, answer, bytes, told}
 
 -- a step of a row: an event, and what it gives
 record Step : Type 0 where

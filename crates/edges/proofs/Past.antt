@@ -1,11 +1,10 @@
 -- The channels' codes, 0x08 and the data status are those of the last accepted sample, as the events alone tell.
 -- Assumes nothing.
 use Prim.Native.Nat.{ℕ, zero, suc, _+_}
-use mathlib.Core.Bool.{Bool, true, false}
+use mathlib.Core.Bool.{Bool}
 use mathlib.Core.Path.{_≡_, refl, sym, ap, _∙_}
 use mathlib.Core.List.{List, [], _∷_}
 use lib.Dec.{eqb}
-use lib.IntN.{ℤ}
 use Rattle.laws.specs.Choice.{pick}
 use Rattle.channels.specs.Channels as channels
 use Rattle.channels.specs.declared.Channels.{Channels}
@@ -17,14 +16,14 @@ use Rattle.registers.specs.declared.Effect.{Effect}
 use Rattle.registers.specs.declared.Effect.the-variants.{Nothing, Plain, Forget, Restart, Release, Empty, Reset}
 use Rattle.device.specs.Device.{powerUp}
 use Rattle.device.specs.Write.{writeOf}
-use Rattle.device.specs.Read.{readOf, afterReadout, channelsAfter, locks}
+use Rattle.device.specs.Read.{readOf, channelsAfter, locks}
 use Rattle.device.specs.Read as device
 use Rattle.device.specs.Sample.{sampleOf, sampleAnswer, afterAccepted, cycleOf}
 use Rattle.device.specs.declared.Device.{Device}
 use Rattle.device.proofs.Parts.{byParts, parts}
 use Rattle.device.proofs.Burst.{after-is}
 use Rattle.edges.specs.Run.{Event, power, write, read, sample, cycle, next, onward, after}
-use Rattle.edges.specs.Rules.{isReset, Past, noPast, pastNext, pastOnward, pastAfter}
+use Rattle.edges.specs.Rules.{Past, noPast, pastNext, pastOnward, pastAfter}
 use Rattle.edges.proofs.Finite.{picked, of-pick}
 use Rattle.edges.proofs.Writes.{resets-is}
 

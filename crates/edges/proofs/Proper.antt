@@ -7,7 +7,7 @@ use mathlib.Core.List.{List, [], _∷_}
 use native.Mathlib.Omega.{arith}
 use lib.Dec.{eqb, ltb, leb}
 use lib.IntN.{ℤ}
-use lib.ListN.{length, getD, set, length-set}
+use lib.ListN.{length, set, length-set}
 use borrow.Author.Tests.{eqb-true, ltb-true}
 use Rattle.laws.specs.Choice.{pick, both, either}
 use Rattle.fifo.specs.Codes.{modeOf, axesOf, depthIn, settingOf, within}
@@ -15,10 +15,8 @@ use Rattle.fifo.specs.Flat.{Flat, flatOf, flatPushed, flatFull, flatRead, behin
 use Rattle.fifo.specs.declared.Drop.{Drop}
 use Rattle.fifo.specs.declared.Drop.the-variants.{Newcomer, Oldest}
 use Rattle.fifo.specs.declared.Setting.{Setting}
-use Rattle.fifo.specs.declared.Mode.{Mode}
-use Rattle.fifo.specs.declared.Axes.{Axes}
 use Rattle.channels.specs.Codes.{codes}
-use Rattle.motion.specs.Detector.{quiet, noAxis, overOn, pointsNeeded, pointOf, afterOver, afterCalm, afterPoint, afterSample, longer}
+use Rattle.motion.specs.Detector.{noAxis, overOn, pointsNeeded, pointOf, afterOver, afterCalm, afterPoint, afterSample, longer}
 use Rattle.motion.specs.Detector as motion
 use Rattle.motion.specs.Slope.{slopeOf}
 use Rattle.motion.specs.declared.Motion.{Motion}
@@ -30,12 +28,12 @@ use Rattle.registers.specs.Table.{rowAt, rowOf, lineOf, listed, lacking, reserv
 use Rattle.registers.specs.Answers.{accepted}
 use Rattle.registers.specs.Codes.{rangeOf, latchOfNibble}
 use Rattle.registers.specs.Refused.{writeAnswer, readAnswer, last, answerAt, reservedCode, notModelled}
-use Rattle.registers.specs.Effects.{judged, stores, resets, empties}
+use Rattle.registers.specs.Effects.{judged, stores, resets}
 use Rattle.registers.specs.declared.Effect.{Effect}
 use Rattle.registers.specs.declared.Effect.the-variants.{Nothing, Plain, Forget, Restart, Release, Empty, Reset}
 use Rattle.device.specs.Device.{firstBytes, powerUp, depth, reg}
-use Rattle.device.specs.Write.{writeOf, storedAt, afterReset, motionAfter}
-use Rattle.device.specs.Read.{readOf, after, afterReadout, frameSize}
+use Rattle.device.specs.Write.{writeOf, afterReset, motionAfter}
+use Rattle.device.specs.Read.{readOf, after, frameSize}
 use Rattle.device.specs.Sample.{sampleOf, sampleAnswer, frameOf, settings, afterAccepted, cycleOf}
 use Rattle.device.specs.declared.Device.{Device}
 use Rattle.device.proofs.Parts.{parts}

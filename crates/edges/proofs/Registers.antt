@@ -7,8 +7,6 @@ use mathlib.Core.List.{List, [], _∷_}
 use native.Mathlib.Omega.{arith}
 use native.Mathlib.Nat.{add-zero}
 use lib.Dec.{eqb, ltb}
-use lib.Bits.{bitAnd, and-zero-r}
-use lib.ListN.{length, getD}
 use borrow.Author.Tests.{eqb-true, ltb-true, le-ltb, lt-ltb, eq-eqb, ne-eqb}
 use Rattle.laws.specs.Choice.{pick, both, either}
 use Rattle.laws.specs.Bits.{bit, worth}
@@ -22,7 +20,7 @@ use Rattle.registers.specs.Codes.{rangeOf, isReserved, latchOf, isModelled}
 use Rattle.registers.specs.Answers.{number, accepted}
 use Rattle.registers.specs.Effects.{effectAt, judged}
 use Rattle.registers.specs.declared.Answer.the-variants.{Done}
-use Rattle.registers.specs.Refused.{readAnswer, writeAnswer, answerAt, reservedCode, notModelled, last}
+use Rattle.registers.specs.Refused.{readAnswer, writeAnswer, answerAt, reservedCode, notModelled}
 use Rattle.device.specs.Device.{chipNumber, firstBytes, powerUp, depth, reg}
 use Rattle.device.specs.Status.{shown, statusesAt, statuses, dataByte}
 use Rattle.device.specs.Write.{writeOf, softReset}

@@ -1,7 +1,7 @@
 -- What an event does to the registers: the byte of each address after it, from the byte before it.
 -- Assumes nothing.
 use Prim.Native.Nat.{ℕ, _<_}
-use mathlib.Core.Bool.{Bool, true, false, not}
+use mathlib.Core.Bool.{Bool, true, false}
 use mathlib.Core.Path.{_≡_, refl, sym, ap, _∙_}
 use mathlib.Core.List.{List, [], _∷_}
 use native.Mathlib.Omega.{arith}
@@ -9,7 +9,7 @@ use lib.Dec.{eqb, ltb}
 use lib.IntN.{ℤ}
 use lib.ListN.{length, getD, set, length-set}
 use lib.Seq.{getD-set-same, getD-set-other}
-use borrow.Author.Tests.{eqb-true, eqb-false, ltb-true, ltb-false, lt-ltb}
+use borrow.Author.Tests.{eqb-true, eqb-false, ltb-false, lt-ltb}
 use Rattle.laws.specs.Choice.{pick, both, either}
 use Rattle.laws.specs.Bits.{bit}
 use Rattle.registers.specs.Table.{rowAt, rowOf, lineOf, listed, lacking, reserved, resetBytes, among, merged}
@@ -28,7 +28,7 @@ use Rattle.device.proofs.Parts.{parts}
 use Rattle.device.proofs.Burst.{after-is}
 use Rattle.edges.specs.Run.{Event, power, write, read, sample, cycle, next}
 use Rattle.edges.specs.Rules.{isReset, writable, isStored, byteNext}
-use Rattle.edges.proofs.Finite.{alike, left, right}
+use Rattle.edges.proofs.Finite.{alike, left}
 
 -- ---- the effect of a write
 pub accepted-below : (a byte : ℕ) → accepted (writeAnswer a byte) ≡ true → a < 64
