@@ -15,4 +15,4 @@ fi
 command -v "$cc" >/dev/null 2>&1 || { echo "there is no C compiler for x86-64: install gcc-x86-64-linux-gnu" >&2; exit 2; }
 # The twin's own programs run under the kit's loader.
 twin="$tools/lib/ld-linux-x86-64.so.2 --library-path $tools/lib"
-[ -x "$tools/bin/qemu-x86_64" ] && twin="$tools/bin/qemu-x86_64 $twin"
+if [ -x "$tools/bin/qemu-x86_64" ]; then twin="$tools/bin/qemu-x86_64 $twin"; fi
