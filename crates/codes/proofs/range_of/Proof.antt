@@ -1,7 +1,7 @@
 use borrow.Author.Tests.{ne-eqb}
-use Rattle.registers.specs.Codes.{rangeOf}
-use Rattle.registers.proofs.range_of.Statement.{statement}
-use Rattle.registers.proofs.range_of.Tie as tie
+use Rattle.codes.specs.Range.{rangeOf}
+use Rattle.codes.proofs.range_of.Statement.{statement}
+use Rattle.codes.proofs.range_of.Tie as tie
 
 pub range-of-spec : {M : Type 1} → statement M
 unfolding rangeOf

@@ -2,10 +2,10 @@ use mathlib.Core.Logic.{inl, inr}
 use mathlib.Core.Path.{_≡_, refl}
 use borrow.Author.Tests.{ne-eqb}
 use Rattle.laws.proofs.Keys.{either}
-use Rattle.registers.specs.Codes.{latchOfNibble}
-use Rattle.registers.specs.declared.Latch.the-variants.{Unlatched, Latched}
-use Rattle.registers.proofs.latch_of.Statement.{statement}
-use Rattle.registers.proofs.latch_of.Tie as tie
+use Rattle.codes.specs.Latch.{latchOfNibble}
+use Rattle.codes.specs.declared.Latch.the-variants.{Unlatched, Latched}
+use Rattle.codes.proofs.latch_of.Statement.{statement}
+use Rattle.codes.proofs.latch_of.Tie as tie
 
 pub latch-of-spec : {M : Type 1} → statement M
 unfolding latchOfNibble

@@ -1,8 +1,8 @@
--- `fifo::mode_of` meets its contract: the tests of the definition are the code's.
+-- `codes::mode_of` meets its contract: the tests of the definition are the code's.
 use borrow.Author.Tests.{ne-eqb}
-use Rattle.fifo.specs.Codes.{modeOf}
-use Rattle.fifo.proofs.mode_of.Statement.{statement}
-use Rattle.fifo.proofs.mode_of.Tie as tie
+use Rattle.codes.specs.Mode.{modeOf}
+use Rattle.codes.proofs.mode_of.Statement.{statement}
+use Rattle.codes.proofs.mode_of.Tie as tie
 
 pub mode-of-spec : {M : Type 1} → statement M
 unfolding modeOf

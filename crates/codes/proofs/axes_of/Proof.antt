@@ -1,8 +1,8 @@
--- `fifo::axes_of` meets its contract: the tests of the definition are the code's.
+-- `codes::axes_of` meets its contract: the tests of the definition are the code's.
 use borrow.Author.Tests.{ne-eqb}
-use Rattle.fifo.specs.Codes.{axesOf}
-use Rattle.fifo.proofs.axes_of.Statement.{statement}
-use Rattle.fifo.proofs.axes_of.Tie as tie
+use Rattle.codes.specs.Axes.{axesOf}
+use Rattle.codes.proofs.axes_of.Statement.{statement}
+use Rattle.codes.proofs.axes_of.Tie as tie
 
 pub axes-of-spec : {M : Type 1} → statement M
 unfolding axesOf

@@ -1,0 +1,55 @@
+-- 01, "Register table": the addresses that more than one rule names, by what stands there.
+use Prim.Native.Nat.{ℕ}
+
+-- the measuring range
+abbrev pub rangeAt : ℕ
+rangeAt = 0x0F
+
+-- bit 6 is 1 where no lock is wanted
+abbrev pub shadowAt : ℕ
+shadowAt = 0x13
+
+-- where 0xB6 is a soft reset
+abbrev pub resetAt : ℕ
+resetAt = 0x14
+
+-- the axes of any-motion, and the enables of data, full and watermark
+abbrev pub axesAt : ℕ
+axesAt = 0x16
+
+abbrev pub enablesAt : ℕ
+enablesAt = 0x17
+
+-- the pins' active levels and drives
+abbrev pub driveAt : ℕ
+driveAt = 0x20
+
+-- the latch mode
+abbrev pub latchAt : ℕ
+latchAt = 0x21
+
+-- any-motion's points in a row, and its threshold
+abbrev pub pointsAt : ℕ
+pointsAt = 0x27
+
+abbrev pub thresholdAt : ℕ
+thresholdAt = 0x28
+
+-- the watermark's level
+abbrev pub levelAt : ℕ
+levelAt = 0x30
+
+-- the two bytes that a soft reset leaves
+abbrev pub firstSpareAt : ℕ
+firstSpareAt = 0x3B
+
+abbrev pub secondSpareAt : ℕ
+secondSpareAt = 0x3C
+
+-- the FIFO's mode and axes
+abbrev pub controlAt : ℕ
+controlAt = 0x3E
+
+-- the last address, at which reads stay: the FIFO's frames
+abbrev pub framesAt : ℕ
+framesAt = 0x3F

@@ -1,0 +1,5 @@
+pub mod Addresses
+pub mod Range
+pub mod Latch
+pub mod Mode
+pub mod Axes

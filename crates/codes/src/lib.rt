@@ -1,0 +1,172 @@
+// What the codes of 0F, 21 and 3E mean, and the addresses that more than one rule names.
+ghost use mathlib.Core.Path.{_≡_};
+ghost use Rattle.codes.specs.Range.{rangeOf, isReservedRange};
+ghost use Rattle.codes.specs.Latch.{latchOf, isModelled, isUnlatched};
+ghost use Rattle.codes.specs.Mode.{modeOf, isReservedMode};
+ghost use Rattle.codes.specs.Axes.{axesOf};
+
+// The measuring range.
+pub const RANGE_AT: usize = 0x0F;
+
+// Bit 6 is 1 where no lock is wanted.
+pub const SHADOW_AT: usize = 0x13;
+
+// Where 0xB6 is a soft reset.
+pub const RESET_AT: usize = 0x14;
+
+// The axes of any-motion, and the enables of data, full and watermark.
+pub const AXES_AT: usize = 0x16;
+
+pub const ENABLES_AT: usize = 0x17;
+
+// The pins' active levels and drives.
+pub const DRIVE_AT: usize = 0x20;
+
+// The latch mode.
+pub const LATCH_AT: usize = 0x21;
+
+// Any-motion's points in a row, and its threshold.
+pub const POINTS_AT: usize = 0x27;
+
+pub const THRESHOLD_AT: usize = 0x28;
+
+// The watermark's level.
+pub const LEVEL_AT: usize = 0x30;
+
+// The two bytes that a soft reset leaves.
+pub const FIRST_SPARE_AT: usize = 0x3B;
+
+pub const SECOND_SPARE_AT: usize = 0x3C;
+
+// The FIFO's mode and axes.
+pub const CONTROL_AT: usize = 0x3E;
+
+// The last address, at which reads stay: the FIFO's frames.
+pub const FRAMES_AT: usize = 0x3F;
+
+// What the low nibble of 0x0F means.
+pub enum Range {
+    G2,
+    G4,
+    G8,
+    G16,
+    Reserved,
+}
+
+// What the low nibble of 0x21 means.
+pub enum Latch {
+    Unlatched,
+    Latched,
+    NotModelled,
+}
+
+// The mode bits of 0x3E. The reserved code is refused before it can be stored.
+pub enum Mode {
+    Bypass,
+    Fifo,
+    Stream,
+    Reserved,
+}
+
+// The axes that 0x3E selects.
+pub enum Axes {
+    All,
+    X,
+    Y,
+    Z,
+}
+
+// The range of a byte of 0x0F.
+pub fn range_of(byte: u8) -> Range
+    ensures { λ r. ⌜ r ≡ rangeOf byte ⌝ }
+{
+    let code = byte % 16;
+    match code {
+        0b0011 => Range::G2,
+        0b0101 => Range::G4,
+        0b1000 => Range::G8,
+        0b1100 => Range::G16,
+        _ => Range::Reserved,
+    }
+}
+
+pub fn is_reserved_range(range: Range) -> bool
+    ensures { λ r. ⌜ r ≡ isReservedRange range ⌝ }
+{
+    match range {
+        Range::G2 => false,
+        Range::G4 => false,
+        Range::G8 => false,
+        Range::G16 => false,
+        Range::Reserved => true,
+    }
+}
+
+// The latch mode of a byte of 0x21.
+pub fn latch_of(byte: u8) -> Latch
+    ensures { λ r. ⌜ r ≡ latchOf byte ⌝ }
+{
+    let code = byte % 16;
+    match code {
+        0b0000 | 0b1000 => Latch::Unlatched,
+        0b0111 | 0b1111 => Latch::Latched,
+        _ => Latch::NotModelled,
+    }
+}
+
+pub fn is_modelled(latch: Latch) -> bool
+    ensures { λ r. ⌜ r ≡ isModelled latch ⌝ }
+{
+    match latch {
+        Latch::Unlatched => true,
+        Latch::Latched => true,
+        Latch::NotModelled => false,
+    }
+}
+
+pub fn is_unlatched(latch: Latch) -> bool
+    ensures { λ r. ⌜ r ≡ isUnlatched latch ⌝ }
+{
+    match latch {
+        Latch::Unlatched => true,
+        Latch::Latched => false,
+        Latch::NotModelled => false,
+    }
+}
+
+// The mode of a byte of 0x3E.
+pub fn mode_of(byte: u8) -> Mode
+    ensures { λ r. ⌜ r ≡ modeOf byte ⌝ }
+{
+    let code = byte / 64;
+    match code {
+        0b00 => Mode::Bypass,
+        0b01 => Mode::Fifo,
+        0b10 => Mode::Stream,
+        _ => Mode::Reserved,
+    }
+}
+
+pub fn is_reserved_mode(mode: Mode) -> bool
+    ensures { λ r. ⌜ r ≡ isReservedMode mode ⌝ }
+{
+    match mode {
+        Mode::Bypass => false,
+        Mode::Fifo => false,
+        Mode::Stream => false,
+        Mode::Reserved => true,
+    }
+}
+
+// The axes of a byte of 0x3E.
+pub fn axes_of(byte: u8) -> Axes
+    ensures { λ r. ⌜ r ≡ axesOf byte ⌝ }
+{
+    let code = byte % 4;
+    match code {
+        0b00 => Axes::All,
+        0b01 => Axes::X,
+        0b10 => Axes::Y,
+        _ => Axes::Z,
+    }
+}
