@@ -3,13 +3,12 @@ use Prim.Native.Nat.{ℕ}
 use mathlib.Core.Bool.{Bool, true, false}
 use mathlib.Core.List.{List}
 use lib.ListN.{getD, set}
-use Rattle.fifo.specs.declared.Fifo.{Fifo}
-use Rattle.fifo.specs.Flat.{noFrames}
+use Rattle.fifo.specs.Flat.{Flat, flatAt, numbersOf}
+use Rattle.fifo.specs.Store.{emptied}
 use Rattle.channels.specs.declared.Channels.{Channels}
 use Rattle.channels.specs.Channels.{noSamples}
-use Rattle.motion.specs.declared.Motion.{Motion}
-use Rattle.motion.specs.Detector.{quiet}
-use Rattle.registers.specs.Table.{resetBytes}
+use Rattle.detectors.specs.Detectors.{allQuiet}
+use Rattle.table.specs.Rows.{resetBytes}
 use Rattle.device.specs.declared.Device.{Device}
 
 -- "The chip number 0xFA and the depth 32 are named once, with the device"
@@ -28,32 +27,29 @@ powerUp = record {
   regs = firstBytes;
   channels = noSamples;
   temperature = 0;
-  ready = false;
-  fifo = noFrames;
-  motion = quiet;
+  came = false;
+  frames = emptied .bytes;
+  fifo = numbersOf emptied;
+  detectors = allQuiet;
 }
 
 -- the byte of a register
 abbrev pub reg : Device → ℕ → ℕ
 reg d a = getD (d .regs) a 0
 
--- ---- a device with one part changed
-abbrev pub withRegs : Device → List ℕ → Device
-withRegs d l =
-    record { regs = l; channels = d .channels; temperature = d .temperature; ready = d .ready; fifo = d .fifo; motion = d .motion }
+-- the FIFO, its store and its numbers together
+abbrev pub flatOf : Device → Flat
+flatOf d = flatAt (d .frames) (d .fifo)
 
+-- ---- a device with one part changed
 abbrev pub withChannels : Device → Channels → Device
 withChannels d c =
-    record { regs = d .regs; channels = c; temperature = d .temperature; ready = d .ready; fifo = d .fifo; motion = d .motion }
+    record { regs = d .regs; channels = c; temperature = d .temperature; came = d .came; frames = d .frames; fifo = d .fifo; detectors = d .detectors }
 
-abbrev pub withReady : Device → Bool → Device
-withReady d b =
-    record { regs = d .regs; channels = d .channels; temperature = d .temperature; ready = b; fifo = d .fifo; motion = d .motion }
+abbrev pub withCame : Device → Bool → Device
+withCame d b =
+    record { regs = d .regs; channels = d .channels; temperature = d .temperature; came = b; frames = d .frames; fifo = d .fifo; detectors = d .detectors }
 
-abbrev pub withFifo : Device → Fifo → Device
-withFifo d f =
-    record { regs = d .regs; channels = d .channels; temperature = d .temperature; ready = d .ready; fifo = f; motion = d .motion }
-
-abbrev pub withMotion : Device → Motion → Device
-withMotion d m =
-    record { regs = d .regs; channels = d .channels; temperature = d .temperature; ready = d .ready; fifo = d .fifo; motion = m }
+abbrev pub withFlat : Device → Flat → Device
+withFlat d f =
+    record { regs = d .regs; channels = d .channels; temperature = d .temperature; came = d .came; frames = f .bytes; fifo = numbersOf f; detectors = d .detectors }

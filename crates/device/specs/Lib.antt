@@ -1,6 +1,5 @@
 pub mod Device
-pub mod Status
-pub mod Pins
 pub mod Write
+pub mod Show
 pub mod Read
 pub mod Sample

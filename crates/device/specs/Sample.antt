@@ -3,23 +3,23 @@ use Prim.Native.Nat.{ℕ}
 use mathlib.Core.Bool.{Bool, true, false, not}
 use mathlib.Core.List.{List, [], _∷_}
 use lib.IntN.{ℤ}
-use lib.ListN.{getD}
 use Rattle.laws.specs.Choice.{pick, either}
 use Rattle.laws.specs.Refusals.{Row, row, first}
+use Rattle.codes.specs.Addresses.{controlAt}
+use Rattle.codes.specs.Mode.{modeOf}
+use Rattle.codes.specs.Axes.{axesOf}
+use Rattle.codes.specs.declared.Axes.{Axes}
+use Rattle.codes.specs.declared.Axes.the-variants.{All, X, Y, Z}
 use Rattle.channels.specs.Codes.{inRange, codes, lsbOf, msbOf}
 use Rattle.channels.specs.Channels.{sampled}
 use Rattle.channels.specs.declared.Codes.{Codes}
-use Rattle.fifo.specs.Codes.{modeOf, axesOf, settingOf, within}
-use Rattle.fifo.specs.Flat.{flatOf, fifoOf, flatPushed}
-use Rattle.fifo.specs.declared.Axes.{Axes}
-use Rattle.fifo.specs.declared.Axes.the-variants.{All, X, Y, Z}
-use Rattle.motion.specs.Detector.{afterSample}
-use Rattle.motion.specs.declared.Settings.{Settings}
+use Rattle.fifo.specs.Flat.{Flat, numbersOf}
+use Rattle.fifo.specs.Store.{pushedAt}
+use Rattle.detectors.specs.Detectors.{detectorsSampled}
 use Rattle.registers.specs.Answers.{accepted}
-use Rattle.registers.specs.Codes.{latchOf, isUnlatched}
 use Rattle.registers.specs.declared.Answer.{Answer}
 use Rattle.registers.specs.declared.Answer.the-variants.{Done, OutOfRange}
-use Rattle.device.specs.Device.{depth, reg, withReady}
+use Rattle.device.specs.Device.{depth, reg, flatOf, withCame}
 use Rattle.device.specs.declared.Device.{Device}
 use Rattle.device.specs.declared.Answered.{Answered}
 
@@ -44,14 +44,9 @@ frameOf X k = oneAxis (k .x)
 frameOf Y k = oneAxis (k .y)
 frameOf Z k = oneAxis (k .z)
 
--- what the detector goes by: 0x16, 0x27, 0x28 and the latch mode in 0x21
-abbrev pub settings : List ℕ → Settings
-settings regs = record {
-  axes = getD regs 0x16 0;
-  points = getD regs 0x27 0;
-  threshold = getD regs 0x28 0;
-  unlatched = isUnlatched (latchOf (getD regs 0x21 0));
-}
+-- the FIFO after an accepted sample's frame came
+abbrev pub flatSampled : Codes → Device → Flat
+flatSampled k d = let axes = axesOf (reg d controlAt) in pushedAt depth (modeOf (reg d controlAt)) axes (frameOf axes k) (flatOf d)
 
 -- an accepted sample: "A sample sets all three new-data bits and 0x08"
 unfoldable pub afterAccepted : ℤ → ℤ → ℤ → ℕ → Device → Device
@@ -59,13 +54,10 @@ afterAccepted x y z temperature d = record {
   regs = d .regs;
   channels = sampled (codes x y z) (d .channels);
   temperature = temperature;
-  ready = true;
-  fifo =
-      fifoOf
-      (flatPushed (within depth) (settingOf (within depth) (modeOf (reg d 0x3E)) (axesOf (reg d 0x3E)))
-      (frameOf (axesOf (reg d 0x3E)) (codes x y z))
-      (flatOf (d .fifo)));
-  motion = afterSample (settings (d .regs)) x y z (d .motion);
+  came = true;
+  frames = flatSampled (codes x y z) d .bytes;
+  fifo = numbersOf (flatSampled (codes x y z) d);
+  detectors = detectorsSampled (d .regs) x y z (d .detectors);
 }
 
 unfoldable pub sampleOf : Device → ℤ → ℤ → ℤ → ℕ → Answered
@@ -76,4 +68,4 @@ sampleOf d x y z temperature = record {
 
 -- "since the last cycle start"
 unfoldable pub cycleOf : Device → Answered
-cycleOf d = record { answer = Done; device = withReady d false }
+cycleOf d = record { answer = Done; device = withCame d false }

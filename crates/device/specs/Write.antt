@@ -5,66 +5,49 @@ use mathlib.Core.List.{List}
 use lib.Dec.{ltb}
 use lib.ListN.{getD, set}
 use Rattle.laws.specs.Choice.{pick}
-use Rattle.fifo.specs.Flat.{noFrames}
+use Rattle.codes.specs.Addresses.{firstSpareAt, secondSpareAt}
+use Rattle.fifo.specs.Flat.{Flat, numbersOf}
+use Rattle.fifo.specs.Store.{emptied}
 use Rattle.channels.specs.Channels.{noSamples, released}
 use Rattle.channels.specs.declared.Channels.{Channels}
-use Rattle.motion.specs.Detector.{quiet, restarted, forgotten}
-use Rattle.motion.specs.declared.Motion.{Motion}
-use Rattle.registers.specs.Effects.{judged, stores, resets, empties}
-use Rattle.registers.specs.declared.Effect.{Effect}
-use Rattle.registers.specs.declared.Effect.the-variants.{Nothing, Plain, Forget, Restart, Release, Empty, Reset}
-use Rattle.device.specs.Device.{firstBytes, powerUp, reg, withRegs, withChannels, withFifo, withMotion}
+use Rattle.detectors.specs.Detectors.{detectorsWritten}
+use Rattle.registers.specs.Deeds.{judgement}
+use Rattle.registers.specs.declared.Deeds.{Deeds}
+use Rattle.device.specs.Device.{firstBytes, flatOf}
 use Rattle.device.specs.declared.Device.{Device}
 use Rattle.device.specs.declared.Answered.{Answered}
 
--- the byte is stored in its register
+-- a byte is stored in the register of an address
 abbrev pub storedAt : List ℕ → ℕ → ℕ → List ℕ
 storedAt regs a byte = pick (ltb a 64) (set regs a byte) regs
 
-abbrev pub stored : ℕ → ℕ → Device → Device
-stored a byte d = withRegs d (storedAt (d .regs) a byte)
-
 -- "everything as at power-up, 0x3B and 0x3C excepted"
-abbrev pub afterReset : List ℕ → List ℕ
-afterReset regs = set (set firstBytes 0x3B (getD regs 0x3B 0)) 0x3C (getD regs 0x3C 0)
+abbrev pub regsReset : List ℕ → List ℕ
+regsReset regs = set (set firstBytes firstSpareAt (getD regs firstSpareAt 0)) secondSpareAt (getD regs secondSpareAt 0)
 
-abbrev pub softReset : Device → Device
-softReset d = withRegs powerUp (afterReset (d .regs))
+-- the registers after a write of a byte to an address
+abbrev pub regsWritten : Deeds → ℕ → ℕ → List ℕ → List ℕ
+regsWritten e a byte regs = pick (e .resets) (regsReset regs) (pick (e .stores) (storedAt regs a byte) regs)
 
--- what a write does to the device
-abbrev pub applied : Effect → ℕ → ℕ → Device → Device
-applied Nothing a byte d = d
-applied Plain a byte d = stored a byte d
-applied Forget a byte d = withMotion (stored a byte d) (forgotten (d .motion))
-applied Restart a byte d = withMotion (stored a byte d) (restarted (d .motion))
-applied Release a byte d = withChannels (stored a byte d) (released (d .channels))
-applied Empty a byte d = withFifo (stored a byte d) noFrames
-applied Reset a byte d = softReset d
+-- "Writing 0x13 with bit 6 at 1 releases all locks"
+abbrev pub channelsWritten : Deeds → Channels → Channels
+channelsWritten e c = pick (e .resets) noSamples (pick (e .releases) (released c) c)
 
-unfoldable pub writeOf : Device → ℕ → ℕ → Answered
-writeOf d a byte = record {
-  answer = judged a byte .answer;
-  device = applied (judged a byte .effect) a (judged a byte .stored) d;
+-- "empties the FIFO and clears overrun"
+abbrev pub flatWritten : Deeds → Flat → Flat
+flatWritten e f = pick (e .empties) emptied f
+
+-- what a write of a byte to an address does to the device, part by part
+unfoldable pub written : Deeds → ℕ → ℕ → Device → Device
+written e a byte d = record {
+  regs = regsWritten e a byte (d .regs);
+  channels = channelsWritten e (d .channels);
+  temperature = pick (e .resets) 0 (d .temperature);
+  came = pick (e .resets) false (d .came);
+  frames = flatWritten e (flatOf d) .bytes;
+  fifo = numbersOf (flatWritten e (flatOf d));
+  detectors = detectorsWritten e (d .detectors);
 }
 
--- ---- the same, part by part
-abbrev pub regsAfter : Effect → ℕ → ℕ → List ℕ → List ℕ
-regsAfter e a byte regs = pick (resets e) (afterReset regs) (pick (stores e) (storedAt regs a byte) regs)
-
-abbrev pub channelsAfter : Effect → Channels → Channels
-channelsAfter Nothing c = c
-channelsAfter Plain c = c
-channelsAfter Forget c = c
-channelsAfter Restart c = c
-channelsAfter Release c = released c
-channelsAfter Empty c = c
-channelsAfter Reset c = noSamples
-
-abbrev pub motionAfter : Effect → Motion → Motion
-motionAfter Nothing m = m
-motionAfter Plain m = m
-motionAfter Forget m = forgotten m
-motionAfter Restart m = restarted m
-motionAfter Release m = m
-motionAfter Empty m = m
-motionAfter Reset m = quiet
+unfoldable pub writeOf : Device → ℕ → ℕ → Answered
+writeOf d a byte = let j = judgement (d .regs) a byte in record { answer = j .answer; device = written (j .deeds) a (j .stored) d }

@@ -1,0 +1,53 @@
+-- What 0x08 to 0x0E show, and the pins: computed from the device where they are asked for.
+use Prim.Native.Nat.{ℕ}
+use mathlib.Core.List.{List}
+use lib.Dec.{eqb, ltb}
+use lib.ListN.{getD}
+use Rattle.laws.specs.Choice.{pick}
+use Rattle.codes.specs.Addresses.{controlAt}
+use Rattle.codes.specs.Mode.{modeOf}
+use Rattle.fifo.specs.Setting.{depthIn}
+use Rattle.fifo.specs.Store.{countAt, statusAt}
+use Rattle.detectors.specs.Detectors.{motionStatus, motionMarks}
+use Rattle.interrupts.specs.Statuses.{statusesOf}
+use Rattle.interrupts.specs.Lines.{statusByte}
+use Rattle.interrupts.specs.Pins.{pinsAt}
+use Rattle.interrupts.specs.declared.Sources.{Sources}
+use Rattle.interrupts.specs.declared.Statuses.{Statuses}
+use Rattle.interrupts.specs.declared.Pins.{Pins}
+use Rattle.device.specs.Device.{depth}
+use Rattle.device.specs.declared.Device.{Device}
+use Rattle.device.specs.declared.showing.Inside.{Inside}
+
+-- what shows beside registers and channels: neither needs the FIFO's store
+abbrev pub insideOf : Device → Inside
+insideOf d = record { temperature = d .temperature; came = d .came; fifo = d .fifo; detectors = d .detectors }
+
+-- what the statuses are made of; "the depth" is that of the mode in 0x3E
+abbrev pub sourcesOf : List ℕ → Inside → Sources
+sourcesOf regs s = record {
+  count = countAt depth (s .fifo);
+  depth = depthIn depth (modeOf (getD regs controlAt 0));
+  came = s .came;
+  moved = motionStatus (s .detectors);
+}
+
+abbrev pub statusesIn : List ℕ → Inside → Statuses
+statusesIn regs s = statusesOf regs (sourcesOf regs s)
+
+-- the byte of an address that is no data register: 0x08 to 0x0B and 0x0E as they are now, the others as stored
+unfoldable pub shownByte : Inside → List ℕ → ℕ → ℕ
+shownByte s regs a =
+    -- "A sample sets .. 0x08"
+    pick (eqb a 0x08) (s .temperature)
+    (pick (eqb a 0x09) (statusByte 0x09 (statusesIn regs s))
+    (pick (eqb a 0x0A) (statusByte 0x0A (statusesIn regs s))
+    -- "0x0B bits 2:0 (z, y, x) mark the first over axis .., and bit 3 is 1 for a negative difference"
+    (pick (eqb a 0x0B) (motionMarks (s .detectors))
+    -- "0x0E is overrun in bit 7, frame count in 6:0"
+    (pick (eqb a 0x0E) (statusAt depth (s .fifo))
+    (pick (ltb a 64) (getD regs a 0) 0)))))
+
+-- both pin levels
+unfoldable pub pinsOf : Device → Pins
+pinsOf d = pinsAt (statusesIn (d .regs) (insideOf d)) (d .regs)

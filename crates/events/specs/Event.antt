@@ -1,0 +1,50 @@
+-- 01, "What the twin covers": the events, and what happens at one.
+use Prim.Native.Nat.{ℕ}
+use mathlib.Core.List.{List, []}
+use lib.IntN.{ℤ}
+use Rattle.laws.specs.Choice.{pick}
+use Rattle.registers.specs.Answers.{number, accepted}
+use Rattle.registers.specs.Refused.{readAnswer}
+use Rattle.registers.specs.declared.Answer.the-variants.{Done}
+use Rattle.device.specs.Device as device
+use Rattle.device.specs.Write.{writeOf}
+use Rattle.device.specs.Read.{readOf, burstBytes}
+use Rattle.device.specs.Sample.{sampleOf, cycleOf}
+use Rattle.device.specs.declared.Device.{Device}
+use Rattle.device.specs.declared.Answered.{Answered}
+
+-- "Five things act on it: power-up, a register write, a burst read into a lent buffer, a sample (x, y, z and temperature) and the
+-- start of an acquisition cycle"
+pub data Event : Type 0 where
+  powerUp : Event
+  -- an address and a byte
+  write : ℕ → ℕ → Event
+  -- an address and a length
+  read : ℕ → ℕ → Event
+  -- x, y, z and the temperature
+  sample : ℤ → ℤ → ℤ → ℕ → Event
+  cycle : Event
+
+-- an event, as the device's contracts have it
+abbrev pub happens : Device → Event → Answered
+happens d powerUp = record { answer = Done; device = device.powerUp }
+happens d (write a byte) = writeOf d a byte
+happens d (read a n) = readOf d a n
+happens d (sample x y z temperature) = sampleOf d x y z temperature
+happens d cycle = cycleOf d
+
+-- the bytes of an accepted read
+abbrev pub bytesAt : Device → Event → List ℕ
+bytesAt d powerUp = []
+bytesAt d (write a byte) = []
+bytesAt d (read a n) = pick (accepted (readAnswer a n)) (burstBytes d a n) []
+bytesAt d (sample x y z temperature) = []
+bytesAt d cycle = []
+
+-- what an event gives: its number, and the bytes of an accepted read
+pub record Given : Type 0 where
+  pub number : ℕ
+  pub bytes : List ℕ
+
+abbrev pub gives : Device → Event → Given
+gives d e = record { number = number (happens d e .answer); bytes = bytesAt d e }
