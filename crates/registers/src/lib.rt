@@ -188,7 +188,7 @@ fn deeds_of(regs: &[u8; 64], row: Row, address: u8, byte: u8) -> Deeds
     let resets = is_reset(address, byte);
     Deeds {
         stores: row.1 != 0,
-        empties: at == CONTROL_AT || resets,
+        empties: (at == CONTROL_AT) | resets,
         releases: both(at == SHADOW_AT, bit(byte, 6)),
         forgets: at == RANGE_AT,
         restarts: is_restarting(address),
