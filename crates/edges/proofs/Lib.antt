@@ -1,4 +1,3 @@
-pub mod Finite
 pub mod Bits
 pub mod Codes
 pub mod Writes

@@ -1,5 +1,6 @@
 pub mod Bytes
 pub mod Table
+pub mod Finite
 pub mod Refusals
 pub mod Outcome
 pub mod Keys

@@ -7,11 +7,9 @@ use Prim.Native.Nat.{ℕ}
 use lib.Dec.{eqb}
 use borrow.Author.Tests.{not-true, eqb-true, eq-eqb}
 use Rattle.laws.specs.Choice.{pick, both, either}
-use Rattle.laws.specs.Refusals.{Row, first, due, dueAmong, isIn}
-
-parts : (b c : Bool) → both b c ≡ true → (b ≡ true) × (c ≡ true)
-parts true c h = (refl, h)
-parts false c h = (h, cc)
+use Rattle.laws.specs.Lists.{isIn}
+use Rattle.laws.proofs.Finite.{left, right}
+use Rattle.laws.specs.Refusals.{Row, first, due, dueAmong}
 
 both-false : (b : Bool) → both b false ≡ false
 both-false true = refl
@@ -39,8 +37,8 @@ module _ {A : Type 0} (number : A → ℕ) where
   not-due : (rs : List (Row A)) (m : ℕ) → fresh m rs ≡ true → due number rs m ≡ false
   not-due [] m h = not-true (eqb m 0) h
   not-due (r ∷ rs) m h =
-      let p = parts (not (eqb m (number (r .answer)))) (fresh m rs) h in
-      simp (not-true (eqb m (number (r .answer))) (p .0), not-due rs m (p .1), both-false)
+      let t = not (eqb m (number (r .answer))) in
+      simp (not-true (eqb m (number (r .answer))) (left t (fresh m rs) h), not-due rs m (right t (fresh m rs) h), both-false)
 
   later : (e : Bool) (m n : ℕ) (rs : List (Row A)) → eqb n m ≡ e → fresh m rs ≡ true → due number rs n ≡ pick e false (due number rs n)
   later true m n rs e f = rw (eqb-true n m e) (not-due rs m f)
@@ -55,8 +53,8 @@ module _ {A : Type 0} (number : A → ℕ) where
   pub exact : (done : A) → number done ≡ 0 → (rs : List (Row A)) (n : ℕ) → apart rs ≡ true → eqb n (number (first done rs)) ≡ due number rs n
   exact done z [] n h = ap (λ (k : ℕ). eqb n k) z
   exact done z (r ∷ rs) n h =
-      let p = parts (fresh (number (r .answer)) rs) (apart rs) h in
-      one (r .holds) (r .answer) done n rs (p .0) (exact done z rs n (p .1))
+      let f = fresh (number (r .answer)) rs in
+      one (r .holds) (r .answer) done n rs (left f (apart rs) h) (exact done z rs n (right f (apart rs) h))
 
   -- ---- rows of which several may have one number
   among : (t : Bool) (x rest : A) (n : ℕ) (d : Bool) → eqb n (number rest) ≡ d → eqb n (number (pick t x rest)) ≡ pick (eqb n (number x)) (either t d) (both (not t) d)
@@ -82,8 +80,8 @@ module _ {A : Type 0} (number : A → ℕ) where
     pub first-in : (rs : List (Row A)) → allIn rs ≡ true → isIn ms (number (first done rs)) ≡ true
     first-in [] h = done-in
     first-in (r ∷ rs) h =
-        let p = parts (isIn ms (number (r .answer))) (allIn rs) h in
-        either-in (r .holds) (r .answer) (first done rs) (p .0) (first-in rs (p .1))
+        let i = isIn ms (number (r .answer)) in
+        either-in (r .holds) (r .answer) (first done rs) (left i (allIn rs) h) (first-in rs (right i (allIn rs) h))
 
 -- as an equivalence
 pub ways : {n m : ℕ} {b : Bool} → eqb n m ≡ b → (m ≡ n → b ≡ true) × (b ≡ true → m ≡ n)

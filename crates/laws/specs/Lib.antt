@@ -1,4 +1,6 @@
 pub mod Choice
+pub mod Lists
+pub mod Keys
 pub mod Bits
 pub mod Bytes
 pub mod Table

@@ -1,6 +1,6 @@
 -- 01, "Numbers given back": a refusal is a row of a table, and the tests of an event are rows in an order.
 use Prim.Native.Nat.{ℕ}
-use mathlib.Core.Bool.{Bool, false, not}
+use mathlib.Core.Bool.{Bool, not}
 use mathlib.Core.List.{List, [], _∷_}
 use lib.Dec.{eqb}
 use Rattle.laws.specs.Choice.{pick, both, either}
@@ -28,8 +28,3 @@ due number (r ∷ rs) n = pick (eqb n (number (r .answer))) (r .holds) (both (no
 abbrev pub dueAmong : {A : Type 0} → (A → ℕ) → List (Row A) → ℕ → Bool
 dueAmong number [] n = eqb n 0
 dueAmong number (r ∷ rs) n = pick (eqb n (number (r .answer))) (either (r .holds) (dueAmong number rs n)) (both (not (r .holds)) (dueAmong number rs n))
-
--- whether a number is in a list
-abbrev pub isIn : List ℕ → ℕ → Bool
-isIn [] n = false
-isIn (m ∷ ms) n = either (eqb n m) (isIn ms n)

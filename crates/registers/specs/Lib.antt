@@ -1,5 +1,3 @@
-pub mod Table
 pub mod Answers
-pub mod Codes
 pub mod Refused
-pub mod Effects
+pub mod Deeds

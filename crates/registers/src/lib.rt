@@ -1,24 +1,35 @@
-// The registers of 01: their table, the answers, and which writes and reads are refused.
+// The registers of 01: the answers, which writes and reads are refused, and what a write does.
 ghost use mathlib.Core.Path.{_≡_};
 ghost use Rattle.registers.specs.Answers.{number, accepted};
-ghost use Rattle.registers.specs.Codes.{rangeOf, isReserved, latchOf, isModelled, isUnlatched};
 ghost use Rattle.registers.specs.Refused.{reservedCode, notModelled, answerAt, readAnswer};
-ghost use Rattle.registers.specs.Effects.{effectAt, effectWhen, judgedAt, judged, stores, resets, empties};
-use fifo::is_reserved;
-use fifo::mode_of;
+ghost use Rattle.registers.specs.Deeds.{isReset, restarting, deedsOf, deedsWhen, judgementAt, judgement};
+ghost use Rattle.laws.specs.Lists.{isIn};
+use codes::AXES_AT;
+use codes::CONTROL_AT;
+use codes::FRAMES_AT;
+use codes::LATCH_AT;
+use codes::POINTS_AT;
+use codes::RANGE_AT;
+use codes::RESET_AT;
+use codes::SHADOW_AT;
+use codes::THRESHOLD_AT;
+use codes::is_modelled;
+use codes::is_reserved_mode;
+use codes::is_reserved_range;
+use codes::latch_of;
+use codes::mode_of;
+use codes::range_of;
 use laws::bit;
+use laws::both;
+use table::Row;
+use table::merge;
+use table::row_at;
 
-mod table;
-
-pub use table::Row;
-pub use table::merge;
-pub use table::reset_bytes;
-pub use table::row_at;
-
-// The last address, the address at which reads stay, and the longest read.
-pub const LAST: usize = 0x3F;
-
+// The longest read.
 pub const LONGEST_READ: usize = 192;
+
+// The byte that at 0x14 is a soft reset.
+pub const SOFT_RESET: u8 = 0xB6;
 
 // What an event is answered; `number_of` gives 01's number.
 pub enum Answer {
@@ -31,38 +42,31 @@ pub enum Answer {
     PastEnd,
 }
 
-// What the low nibble of 0x0F means.
-pub enum Range {
-    G2,
-    G4,
-    G8,
-    G16,
-    Reserved,
+// What a write does: its byte is stored; the FIFO is emptied and its overrun cleared; the locks are released; the previous sample is
+// forgotten; any-motion starts anew; everything goes back to power-up.
+pub struct Deeds {
+    pub stores: bool,
+    pub empties: bool,
+    pub releases: bool,
+    pub forgets: bool,
+    pub restarts: bool,
+    pub resets: bool,
 }
 
-// What the low nibble of 0x21 means.
-pub enum Latch {
-    Unlatched,
-    Latched,
-    NotModelled,
-}
-
-// What an accepted write does. Nothing: the chip ignores it. Plain: its byte is stored. Forget, Restart, Release, Empty: its byte
-// is stored, and the detector forgets the previous sample, or starts anew, or the locks are released, or the FIFO is emptied.
-pub enum Effect {
-    Nothing,
-    Plain,
-    Forget,
-    Restart,
-    Release,
-    Empty,
-    Reset,
-}
+// What a refused write does.
+const NO_DEEDS: Deeds = Deeds {
+    stores: false,
+    empties: false,
+    releases: false,
+    forgets: false,
+    restarts: false,
+    resets: false,
+};
 
 // What the registers say of a write: its answer, what it does, and the byte that is stored where one is.
 pub struct Judged {
     pub answer: Answer,
-    pub effect: Effect,
+    pub deeds: Deeds,
     pub stored: u8,
 }
 
@@ -94,96 +98,39 @@ pub fn is_accepted(answer: Answer) -> bool
     }
 }
 
-// The range of a byte of 0x0F.
-pub fn range_of(byte: u8) -> Range
-    ensures { λ r. ⌜ r ≡ rangeOf byte ⌝ }
-{
-    let code = byte % 16;
-    match code {
-        0b0011 => Range::G2,
-        0b0101 => Range::G4,
-        0b1000 => Range::G8,
-        0b1100 => Range::G16,
-        _ => Range::Reserved,
-    }
-}
-
-pub fn is_reserved_range(range: Range) -> bool
-    ensures { λ r. ⌜ r ≡ isReserved range ⌝ }
-{
-    match range {
-        Range::G2 => false,
-        Range::G4 => false,
-        Range::G8 => false,
-        Range::G16 => false,
-        Range::Reserved => true,
-    }
-}
-
-// The latch mode of a byte of 0x21.
-pub fn latch_of(byte: u8) -> Latch
-    ensures { λ r. ⌜ r ≡ latchOf byte ⌝ }
-{
-    let code = byte % 16;
-    match code {
-        0b0000 | 0b1000 => Latch::Unlatched,
-        0b0111 | 0b1111 => Latch::Latched,
-        _ => Latch::NotModelled,
-    }
-}
-
-pub fn is_modelled(latch: Latch) -> bool
-    ensures { λ r. ⌜ r ≡ isModelled latch ⌝ }
-{
-    match latch {
-        Latch::Unlatched => true,
-        Latch::Latched => true,
-        Latch::NotModelled => false,
-    }
-}
-
-pub fn is_unlatched(latch: Latch) -> bool
-    ensures { λ r. ⌜ r ≡ isUnlatched latch ⌝ }
-{
-    match latch {
-        Latch::Unlatched => true,
-        Latch::Latched => false,
-        Latch::NotModelled => false,
-    }
-}
-
 // Whether a write is of a code that the sheet reserves.
-fn is_reserved_code(address: u8, byte: u8) -> bool
-    ensures { λ r. ⌜ r ≡ reservedCode address byte ⌝ }
+fn is_reserved_code(regs: &[u8; 64], address: u8, byte: u8) -> bool
+    ensures { λ r. ⌜ r ≡ reservedCode (now (regs .entry)) address byte ⌝ }
 {
-    match address {
-        0x0F => is_reserved_range(range_of(byte)),
-        0x3E => is_reserved(mode_of(byte)),
+    let at = address as usize;
+    match at {
+        RANGE_AT => is_reserved_range(range_of(byte)),
+        CONTROL_AT => is_reserved_mode(mode_of(byte)),
         _ => false,
     }
 }
 
 // Whether a write is of a setting that is not modelled.
-fn is_not_modelled(row: Row, address: u8, byte: u8) -> bool
-    ensures { λ r. ⌜ r ≡ notModelled row address byte ⌝ }
+fn is_not_modelled(regs: &[u8; 64], row: Row, address: u8, byte: u8) -> bool
+    ensures { λ r. ⌜ r ≡ notModelled (now (regs .entry)) row address byte ⌝ }
 {
-    if address == 0x21 {
+    if address as usize == LATCH_AT {
         return !is_modelled(latch_of(byte));
     }
     byte & row.2 != 0
 }
 
 // What a write is answered.
-fn write_answer(row: Row, address: u8, byte: u8) -> Answer
-    ensures { λ r. ⌜ r ≡ answerAt row address byte ⌝ }
+fn write_answer(regs: &[u8; 64], row: Row, address: u8, byte: u8) -> Answer
+    ensures { λ r. ⌜ r ≡ answerAt (now (regs .entry)) row address byte ⌝ }
 {
-    if address as usize > LAST {
+    if address as usize > FRAMES_AT {
         return Answer::NoAddress;
     }
-    if is_reserved_code(address, byte) {
+    if is_reserved_code(regs, address, byte) {
         return Answer::ReservedCode;
     }
-    if is_not_modelled(row, address, byte) {
+    if is_not_modelled(regs, row, address, byte) {
         return Answer::NotModelled;
     }
     Answer::Done
@@ -194,7 +141,7 @@ pub fn read_answer(address: u8, count: usize) -> Answer
     ensures { λ r. ⌜ r ≡ readAnswer address count ⌝ }
 {
     let first = address as usize;
-    if first > LAST {
+    if first > FRAMES_AT {
         return Answer::NoAddress;
     }
     if count == 0 {
@@ -203,121 +150,77 @@ pub fn read_answer(address: u8, count: usize) -> Answer
     if count > LONGEST_READ {
         return Answer::BadLength;
     }
-    if first < LAST {
-        if first + count > LAST {
+    if first < FRAMES_AT {
+        if first + count > FRAMES_AT {
             return Answer::PastEnd;
         }
     }
     Answer::Done
 }
 
-// What an accepted write does.
-fn effect_of(row: Row, address: u8, byte: u8) -> Effect
-    ensures { λ r. ⌜ r ≡ effectAt row address byte ⌝ }
+// Whether a write is a soft reset.
+fn is_reset(address: u8, byte: u8) -> bool
+    ensures { λ r. ⌜ r ≡ isReset address byte ⌝ }
 {
-    match address {
-        0x0F => Effect::Forget,
-        0x13 => {
-            if bit(byte, 6) {
-                Effect::Release
-            } else {
-                Effect::Plain
-            }
-        }
-        0x14 => {
-            if byte == 0xB6 {
-                Effect::Reset
-            } else {
-                Effect::Nothing
-            }
-        }
-        0x16 => Effect::Restart,
-        0x21 => Effect::Restart,
-        0x27 => Effect::Restart,
-        0x28 => Effect::Restart,
-        0x3E => Effect::Empty,
-        _ => {
-            if row.1 == 0 {
-                Effect::Nothing
-            } else {
-                Effect::Plain
-            }
-        }
+    both(address as usize == RESET_AT, byte == SOFT_RESET)
+}
+
+// Whether any-motion starts anew at an accepted write.
+fn is_restarting(address: u8) -> bool
+    ensures { λ r. ⌜ r ≡ isIn restarting address ⌝ }
+{
+    let at = address as usize;
+    match at {
+        RANGE_AT => true,
+        AXES_AT => true,
+        LATCH_AT => true,
+        POINTS_AT => true,
+        THRESHOLD_AT => true,
+        _ => false,
+    }
+}
+
+// What an accepted write does.
+fn deeds_of(regs: &[u8; 64], row: Row, address: u8, byte: u8) -> Deeds
+    ensures { λ r. ⌜ r ≡ deedsOf (now (regs .entry)) row address byte ⌝ }
+{
+    let at = address as usize;
+    let resets = is_reset(address, byte);
+    Deeds {
+        stores: row.1 != 0,
+        empties: (at == CONTROL_AT) | resets,
+        releases: both(at == SHADOW_AT, bit(byte, 6)),
+        forgets: at == RANGE_AT,
+        restarts: is_restarting(address),
+        resets,
     }
 }
 
 // What a write does: nothing where it is refused.
-fn effect_when(accepted: bool, row: Row, address: u8, byte: u8) -> Effect
-    ensures { λ r. ⌜ r ≡ effectWhen accepted row address byte ⌝ }
+fn deeds_when(accepted: bool, regs: &[u8; 64], row: Row, address: u8, byte: u8) -> Deeds
+    ensures { λ r. ⌜ r ≡ deedsWhen accepted (now (regs .entry)) row address byte ⌝ }
 {
     if !accepted {
-        return Effect::Nothing;
+        return NO_DEEDS;
     }
-    effect_of(row, address, byte)
+    deeds_of(regs, row, address, byte)
 }
 
-fn judge_at(row: Row, address: u8, byte: u8) -> Judged
-    ensures { λ r. ⌜ r ≡ judgedAt row address byte ⌝ }
+fn judge_at(regs: &[u8; 64], row: Row, address: u8, byte: u8) -> Judged
+    ensures { λ r. ⌜ r ≡ judgementAt (now (regs .entry)) row address byte ⌝ }
 {
-    let answer = write_answer(row, address, byte);
-    let effect = effect_when(is_accepted(answer), row, address, byte);
+    let answer = write_answer(regs, row, address, byte);
+    let deeds = deeds_when(is_accepted(answer), regs, row, address, byte);
     Judged {
         answer,
-        effect,
+        deeds,
         stored: merge(row, byte),
     }
 }
 
-// What the registers say of a write.
-pub fn judge_write(address: u8, byte: u8) -> Judged
-    ensures { λ r. ⌜ r ≡ judged address byte ⌝ }
+// What the registers, lent as they are before it, say of a write.
+pub fn judge_write(regs: &[u8; 64], address: u8, byte: u8) -> Judged
+    ensures { λ r. ⌜ r ≡ judgement (now (regs .entry)) address byte ⌝ }
 {
-    judge_at(row_at(address), address, byte)
-}
-
-impl Effect {
-    // Whether the write's byte is stored.
-    pub fn stores(self) -> bool
-        ensures { λ r. ⌜ r ≡ stores self ⌝ }
-    {
-        match self {
-            Effect::Nothing => false,
-            Effect::Plain => true,
-            Effect::Forget => true,
-            Effect::Restart => true,
-            Effect::Release => true,
-            Effect::Empty => true,
-            Effect::Reset => false,
-        }
-    }
-
-    // Whether everything goes back to power-up.
-    pub fn resets(self) -> bool
-        ensures { λ r. ⌜ r ≡ resets self ⌝ }
-    {
-        match self {
-            Effect::Nothing => false,
-            Effect::Plain => false,
-            Effect::Forget => false,
-            Effect::Restart => false,
-            Effect::Release => false,
-            Effect::Empty => false,
-            Effect::Reset => true,
-        }
-    }
-
-    // Whether the FIFO is emptied and its overrun cleared.
-    pub fn empties(self) -> bool
-        ensures { λ r. ⌜ r ≡ empties self ⌝ }
-    {
-        match self {
-            Effect::Nothing => false,
-            Effect::Plain => false,
-            Effect::Forget => false,
-            Effect::Restart => false,
-            Effect::Release => false,
-            Effect::Empty => true,
-            Effect::Reset => true,
-        }
-    }
+    judge_at(regs, row_at(address), address, byte)
 }

@@ -13,5 +13,5 @@ is-reserved-code-spec =
     (λ c κs. tt)
     (λ c κs. tt)
     (λ c. simp (c .before .before .match .keys1, ← c .before .range-of .ensures, ← c .is-reserved-range .ensures))
-    (λ c. simp (c .before .before .match .keys2, ← c .before .mode-of .ensures, ← c .is-reserved .ensures))
+    (λ c. simp (c .before .before .match .keys2, ← c .before .mode-of .ensures, ← c .is-reserved-mode .ensures))
     (λ c. let r = c .match .rest in simp (ne-eqb _ _ (r .0 .1), ne-eqb _ _ (r .1))))

@@ -9,4 +9,4 @@ judge-at-spec =
     (λ c κs. tt)
     (λ c κs. tt)
     (λ c κs. tt)
-    (λ c. simp (← c .before .before .before .write-answer .ensures, ← c .before .before .is-accepted .ensures, ← c .before .effect-when .ensures, c .merge .ensures)))
+    (λ c. simp (← c .before .before .before .write-answer .ensures, ← c .before .before .is-accepted .ensures, ← c .before .deeds-when .ensures, c .merge .ensures)))

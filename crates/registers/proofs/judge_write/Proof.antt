@@ -1,9 +1,9 @@
-use Rattle.registers.specs.Effects.{judged}
+use Rattle.registers.specs.Deeds.{judgement}
 use Rattle.registers.proofs.judge_write.Statement.{statement}
 use Rattle.registers.proofs.judge_write.Tie as tie
 
 pub judge-write-spec : {M : Type 1} → statement M
-unfolding judged
+unfolding judgement
 judge-write-spec =
     tie.close
     (tie.spec

@@ -1,12 +1,13 @@
 -- 01, "Register table": 64 rows of reset byte and write mask.
 use Prim.Native.Nat.{ℕ}
-use mathlib.Core.Bool.{Bool, true, false}
+use mathlib.Core.Bool.{Bool, not}
 use mathlib.Core.List.{List, [], _∷_}
 use lib.Dec.{eqb, ltb}
 use lib.Bits.{bitAnd, bitOr, bitXor}
 use Rattle.laws.specs.Choice.{pick}
+use Rattle.laws.specs.Lists.{isIn}
 use Rattle.laws.specs.Table.{upFrom}
-use Rattle.registers.specs.declared.table.Row.{Row}
+use Rattle.table.specs.declared.Row.{Row}
 
 -- a line of the paper: an address, a reset byte and a write mask
 pub record Line : Type 0 where
@@ -29,12 +30,8 @@ listed =
     line 0x3A 0x00 0xFF ∷ line 0x3B 0x00 0xFF ∷ line 0x3C 0x00 0xFF ∷ line 0x3E 0x00 0xC3 ∷ []
 
 -- "Reserved addresses .. read 0xFF and ignore writes"
-unfoldable pub reserved : List ℕ
-reserved = 0x01 ∷ 0x0D ∷ 0x15 ∷ 0x1C ∷ 0x1D ∷ 0x1F ∷ 0x31 ∷ 0x35 ∷ 0x3D ∷ []
-
-abbrev pub among : ℕ → List ℕ → Bool
-among a [] = false
-among a (b ∷ bs) = pick (eqb a b) true (among a bs)
+unfoldable pub reservedAddresses : List ℕ
+reservedAddresses = 0x01 ∷ 0x0D ∷ 0x15 ∷ 0x1C ∷ 0x1D ∷ 0x1F ∷ 0x31 ∷ 0x35 ∷ 0x3D ∷ []
 
 -- the line of an address, or other where none is listed
 abbrev pub find : List Line → ℕ → Line → Line
@@ -44,16 +41,16 @@ find (l ∷ ls) a other = pick (eqb a (l .address)) l (find ls a other)
 -- what is not listed and not reserved is read-only and 0 at reset: 02 to 0C, 0E, 3F, and 14, which reads 0.
 -- At 00 the device puts its chip number
 unfoldable pub lineOf : ℕ → Line
-lineOf a = find listed a (pick (among a reserved) (line a 0xFF 0) (line a 0 0))
+lineOf a = find listed a (pick (isIn reservedAddresses a) (line a 0xFF 0) (line a 0 0))
 
 -- "Refused 3: a 1 in ..": an address, with those bits as the mask
-unfoldable pub lacking : List Line
-lacking =
+unfoldable pub refusedBits : List Line
+refusedBits =
     line 0x11 0 0xE0 ∷ line 0x16 0 0xF0 ∷ line 0x17 0 0x0F ∷ line 0x18 0 0x07 ∷ line 0x32 0 0x03 ∷ line 0x33 0 0x0B ∷
     line 0x36 0 0xE7 ∷ line 0x38 0 0xFF ∷ line 0x39 0 0xFF ∷ line 0x3A 0 0xFF ∷ []
 
 unfoldable pub rowOf : ℕ → Row
-rowOf a = record { 0 = lineOf a .reset; 1 = lineOf a .mask; 2 = find lacking a (line a 0 0) .mask }
+rowOf a = record { 0 = lineOf a .reset; 1 = lineOf a .mask; 2 = find refusedBits a (line a 0 0) .mask }
 
 -- the row of an address; past 0x3F there is none
 unfoldable pub rowAt : ℕ → Row
@@ -65,3 +62,7 @@ resetBytes = upFrom (λ a. rowOf a .0) 0 64
 -- "A write changes masked bits only; other bits keep their reset value"
 abbrev pub merged : Row → ℕ → ℕ
 merged row byte = bitOr (bitAnd byte (row .1)) (bitAnd (row .0) (bitXor (row .1) 0xFF))
+
+-- whether some bit of the register can be written
+abbrev pub writable : ℕ → Bool
+writable a = not (eqb (rowAt a .1) 0)

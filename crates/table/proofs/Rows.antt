@@ -5,7 +5,7 @@ use mathlib.Core.Path.{_≡_, refl, sym, _∙_}
 use lib.ListN.{length, getD}
 use borrow.Author.Tests.{lt-ltb}
 use Rattle.laws.proofs.Table.{entry}
-use Rattle.registers.specs.Table.{rowOf, rowAt, resetBytes}
+use Rattle.table.specs.Rows.{rowOf, rowAt, resetBytes}
 
 pub reset-at : (a : ℕ) → a < 64 → rowAt a .0 ≡ getD resetBytes a 0
 unfolding rowAt resetBytes

@@ -1,6 +1,6 @@
 // The table of 01: reset byte, write mask and the bits of which a 1 is refused 3, by address.
 ghost use mathlib.Core.Path.{_≡_};
-ghost use Rattle.registers.specs.Table.{rowAt, resetBytes, merged};
+ghost use Rattle.table.specs.Rows.{rowAt, resetBytes, merged};
 
 // A reset byte, a write mask, and refused bits.
 pub struct Row(pub u8, pub u8, pub u8);

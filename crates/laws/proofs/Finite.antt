@@ -8,10 +8,10 @@ use mathlib.Core.List.{List, [], _∷_}
 use lib.Dec.{eqb}
 use lib.ListN.{getD}
 use borrow.Author.Tests.{eqb-true}
 use Rattle.laws.specs.Choice.{pick, both}
+use Rattle.laws.specs.Lists.{isIn}
 use Rattle.laws.specs.Table.{upFrom}
 use Rattle.laws.proofs.Table.{entry}
-use Rattle.registers.specs.Table.{among}
 
 -- what holds of both sides of a choice holds of the choice
 pub picked : {A : Type 0} (P : A → Type 0) (b : Bool) {x y : A} → P x → P y → P (pick b x y)
@@ -38,10 +38,10 @@ abbrev pub all : (ℕ → Bool) → List ℕ → Bool
 all p [] = true
 all p (b ∷ l) = both (p b) (all p l)
 
-pub each : (p : ℕ → Bool) (l : List ℕ) → all p l ≡ true → (a : ℕ) → among a l ≡ true → p a ≡ true
+pub each : (p : ℕ → Bool) (l : List ℕ) → all p l ≡ true → (a : ℕ) → isIn l a ≡ true → p a ≡ true
 each p [] e a h = cc
 each p (b ∷ l) e a h = go (each p l (right (p b) (all p l) e) a) (eqb a b) refl
   where
-    go : (among a l ≡ true → p a ≡ true) → (t : Bool) → eqb a b ≡ t → p a ≡ true
+    go : (isIn l a ≡ true → p a ≡ true) → (t : Bool) → eqb a b ≡ t → p a ≡ true
     go rest true f = rw (eqb-true a b f) (left (p b) (all p l) e)
     go rest false f = rest (rw f at h)

@@ -1,13 +1,13 @@
 -- The table of the code is compared with the rows of 01 once, by computation; `entry` carries it to each address.
 use borrow.Author.Tests.{lt-ltb, le-ltb}
 use Rattle.laws.proofs.Table.{entry}
-use Rattle.registers.specs.Table.{rowAt, rowOf, lineOf, listed, reserved, lacking}
+use Rattle.table.specs.Rows.{rowAt, rowOf, lineOf, listed, reservedAddresses, refusedBits}
 use borrow.Author.Needs.{needs}
-use Rattle.registers.proofs.table.row_at.Statement.{statement}
-use Rattle.registers.proofs.table.row_at.Tie as tie
+use Rattle.table.proofs.row_at.Statement.{statement}
+use Rattle.table.proofs.row_at.Tie as tie
 
 pub row-at-spec : {M : Type 1} → statement M
-unfolding rowAt rowOf lineOf listed reserved lacking
+unfolding rowAt rowOf lineOf listed reservedAddresses refusedBits
 row-at-spec =
     tie.close
     (tie.spec

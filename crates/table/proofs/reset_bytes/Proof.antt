@@ -3,11 +3,11 @@ use mathlib.Core.Path.{ap, _∙_}
 use native.Mathlib.Omega.{arith}
 use lib.ListN.{length, replicate}
 use Rattle.laws.proofs.Bytes.{Copied, copied-none, copied-more, copied-all, paste-whole}
-use Rattle.registers.specs.Table.{resetBytes}
-use Rattle.registers.specs.declared.table.Row.{Row}
-use Rattle.registers.proofs.Rows.{reset-at, reset-length}
-use Rattle.registers.proofs.table.reset_bytes.Statement.{statement}
-use Rattle.registers.proofs.table.reset_bytes.Tie as tie
+use Rattle.table.specs.Rows.{resetBytes}
+use Rattle.table.specs.declared.Row.{Row}
+use Rattle.table.proofs.Rows.{reset-at, reset-length}
+use Rattle.table.proofs.reset_bytes.Statement.{statement}
+use Rattle.table.proofs.reset_bytes.Tie as tie
 
 abbrev Inv-loop : tie.InvT-loop
 Inv-loop bytes₀ i₀ bytes i = (i ≤ 64) × Copied bytes₀ 0 resetBytes i bytes
