@@ -1,0 +1,3 @@
+pub mod Slope
+pub mod Point
+pub mod Runs
