@@ -3,6 +3,7 @@ use Prim.Native.Nat.{ℕ, _+_, _%_}
 use mathlib.Core.Bool.{Bool, true, false}
 use mathlib.Core.List.{[], _∷_}
 use mathlib.Core.Path.{_≡_}
+use lib.Dec.{eqb}
 use Rattle.laws.specs.Choice.{pick}
 use Rattle.laws.specs.Bits.{worth}
 use Rattle.laws.specs.Refusals.{isIn}
@@ -25,6 +26,10 @@ cleared a = record { status = false; mark = 0; negative = a .negative }
 abbrev pub marksOf : Alarm → ℕ
 marksOf a = a .mark % 8 + worth 8 (a .negative)
 
--- one axis is marked while the status is set, and none while it is not
+-- x, y or z, as an axis is marked
+abbrev pub isAxisMark : ℕ → Bool
+isAxisMark mark = isIn (1 ∷ 2 ∷ 4 ∷ []) mark
+
+-- one axis is marked while the status is set, and none while it is not: "The marks clear with the status"
 abbrev pub Marked : Alarm → Type 0
-Marked a = isIn (pick (a .status) (1 ∷ 2 ∷ 4 ∷ []) (0 ∷ [])) (a .mark) ≡ true
+Marked a = pick (a .status) (isAxisMark (a .mark)) (eqb (a .mark) 0) ≡ true

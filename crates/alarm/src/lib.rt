@@ -22,15 +22,18 @@ impl Alarm {
     }
 
     // The status is set, with its mark and its sign; one already set stays as it is.
-    pub fn raise(mut self, mark: u8, negative: bool) -> Self
+    pub fn raise(self, mark: u8, negative: bool) -> Self
         ensures { λ r. ⌜ r ≡ raised mark negative self ⌝ }
     {
-        if !self.status {
-            self.status = true;
-            self.mark = mark;
-            self.negative = negative;
+        if self.status {
+            self
+        } else {
+            Alarm {
+                status: true,
+                mark: mark,
+                negative: negative,
+            }
         }
-        self
     }
 
     // The mark clears with the status; the sign stays.

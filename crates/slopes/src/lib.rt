@@ -1,7 +1,8 @@
 // What the slope detectors share: the previous sample, the slopes from it to the next, the point that these give, and runs of points.
 ghost use mathlib.Core.Path.{_≡_};
 ghost use lib.Dec.{leb};
-ghost use Rattle.slopes.specs.Slope.{slopeOf, noPrevious, remembered, forgotten, slopesTo};
+ghost use Rattle.slopes.specs.Slope.{slopeOf};
+ghost use Rattle.slopes.specs.Previous.{noPrevious, remembered, forgotten, slopesTo};
 ghost use Rattle.slopes.specs.Point.{overOn, noAxis, firstOver, pointOf};
 ghost use Rattle.slopes.specs.Runs.{noRuns, longer, overRun, calmRun};
 use laws::bit;
