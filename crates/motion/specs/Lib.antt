@@ -1,2 +1,1 @@
-pub mod Slope
 pub mod Detector

@@ -1,0 +1,91 @@
+-- What holds of an alarm however it is used. Assumes nothing.
+use Prim.Native.Nat.{ℕ, _+_, _/_, _%_, _^_, _<_}
+use mathlib.Core.Bool.{Bool, true, false, not}
+use mathlib.Core.Path.{_≡_, refl}
+use native.Mathlib.Omega.{arith}
+use borrow.Author.Tests.{eqb-true, eq-eqb, ne-eqb}
+use lib.Dec.{eqb}
+use Rattle.laws.specs.Choice.{pick, either}
+use Rattle.laws.specs.Bits.{bit, worth}
+use Rattle.alarm.specs.Alarm.{off, raised, cleared, marksOf, isAxisMark, Marked}
+use Rattle.alarm.specs.declared.Alarm.{Alarm}
+
+-- ---- setting and clearing
+-- "A status already set is not set again": status, mark and sign stay
+pub raised-set : (mark : ℕ) (negative : Bool) (a : Alarm) → a .status ≡ true → raised mark negative a ≡ a
+raised-set mark negative a h = rw h refl
+
+pub raised-clear : (mark : ℕ) (negative : Bool) (a : Alarm) → a .status ≡ false → raised mark negative a ≡ record { status = true; mark = mark; negative = negative }
+raised-clear mark negative a h = rw h refl
+
+pub raised-status : (mark : ℕ) (negative : Bool) (a : Alarm) → raised mark negative a .status ≡ true
+raised-status mark negative a = go (a .status) refl
+  where
+    go : (b : Bool) → a .status ≡ b → pick b a (record { status = true; mark = mark; negative = negative }) .status ≡ true
+    go true h = h
+    go false h = refl
+
+pub raised-twice : (mark mark′ : ℕ) (negative negative′ : Bool) (a : Alarm) → raised mark′ negative′ (raised mark negative a) ≡ raised mark negative a
+raised-twice mark mark′ negative negative′ a = raised-set mark′ negative′ (raised mark negative a) (raised-status mark negative a)
+
+pub cleared-twice : (a : Alarm) → cleared (cleared a) ≡ cleared a
+cleared-twice a = refl
+
+-- "bit 3 stays"
+pub cleared-sign : (a : Alarm) → cleared a .negative ≡ a .negative
+cleared-sign a = refl
+
+-- ---- marks that come and go with the status
+pub off-marked : Marked off
+off-marked = refl
+
+pub cleared-marked : (a : Alarm) → Marked (cleared a)
+cleared-marked a = refl
+
+pub raised-marked : (mark : ℕ) (negative : Bool) (a : Alarm) → isAxisMark mark ≡ true → Marked a → Marked (raised mark negative a)
+raised-marked mark negative a m h = go (a .status)
+  where
+    go : (b : Bool) → Marked (pick b a (record { status = true; mark = mark; negative = negative }))
+    go true = h
+    go false = m
+
+axis-size : (mark : ℕ) → isAxisMark mark ≡ true → (0 < mark) × (mark < 8)
+axis-size mark = go (eqb mark 1) refl (eqb mark 2) refl (eqb mark 4) refl
+  where
+    near : (n : ℕ) → eqb mark n ≡ true → 0 < n → n < 8 → (0 < mark) × (mark < 8)
+    near n e p q = let m = eqb-true mark n e in (omega arith, omega arith)
+
+    go : (x : Bool) → eqb mark 1 ≡ x → (y : Bool) → eqb mark 2 ≡ y → (z : Bool) → eqb mark 4 ≡ z → either x (either y (either z false)) ≡ true
+        → (0 < mark) × (mark < 8)
+    go true e y f z g h = near 1 e (omega arith) (omega arith)
+    go false e true f z g h = near 2 f (omega arith) (omega arith)
+    go false e false f true g h = near 4 g (omega arith) (omega arith)
+    go false e false f false g h = let n : _≡_ {A = ℕ} 0 1 = cc in absurd (omega arith)
+
+-- no axis is marked exactly while the status is not set
+pub marked-none : (a : Alarm) → Marked a → eqb (a .mark) 0 ≡ not (a .status)
+marked-none a = go (a .status)
+  where
+    go : (b : Bool) → pick b (isAxisMark (a .mark)) (eqb (a .mark) 0) ≡ true → eqb (a .mark) 0 ≡ not b
+    go true h = let s = axis-size (a .mark) h .0 in ne-eqb (a .mark) 0 (omega arith)
+    go false h = h
+
+pub marked-small : (a : Alarm) → Marked a → a .mark < 8
+marked-small a = go (a .status)
+  where
+    go : (b : Bool) → pick b (isAxisMark (a .mark)) (eqb (a .mark) 0) ≡ true → a .mark < 8
+    go true h = axis-size (a .mark) h .1
+    go false h = let m = eqb-true (a .mark) 0 h in omega arith
+
+-- ---- the byte that shows them
+pub marks-apart : (a : Alarm) → a .mark < 8 → (bit 3 (marksOf a) ≡ a .negative) × (marksOf a % 8 ≡ a .mark) × (marksOf a < 16)
+unfolding bit
+marks-apart a = go (a .negative) (a .mark)
+  where
+    go : (s : Bool) (m : ℕ) → m < 8 → (eqb ((m % 8 + worth 8 s) / 2 ^ 3 % 2) 1 ≡ s) × ((m % 8 + worth 8 s) % 8 ≡ m) × (m % 8 + worth 8 s < 16)
+    go true m h = (eq-eqb ((m % 8 + 8) / 2 ^ 3 % 2) 1 (omega arith), omega arith, omega arith)
+    go false m h = (ne-eqb ((m % 8 + 0) / 2 ^ 3 % 2) 1 (omega arith), omega arith, omega arith)
+
+-- a mark below 8 is shown whole
+pub marks-whole : (a : Alarm) → a .mark < 8 → marksOf a ≡ a .mark + worth 8 (a .negative)
+marks-whole a h = let m : a .mark % 8 ≡ a .mark = omega arith in rw m

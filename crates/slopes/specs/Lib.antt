@@ -1,0 +1,4 @@
+pub mod Slope
+pub mod Previous
+pub mod Point
+pub mod Runs

@@ -1,0 +1,18 @@
+-- 01, "Interrupts and pins", any-motion: "N over points in a row", "N calm points in a row".
+use Prim.Native.Nat.{ℕ, _+_, min}
+use Rattle.slopes.specs.declared.Runs.{Runs}
+
+abbrev pub noRuns : Runs
+noRuns = record { over = 0; calm = 0 }
+
+-- a run that is longer by one point; where n in a row are asked for, it is counted as far as n
+abbrev pub longer : ℕ → ℕ → ℕ
+longer n run = min (run + 1) n
+
+-- an over point comes, where n in a row are asked for
+unfoldable pub overRun : ℕ → Runs → Runs
+overRun n r = record { over = longer n (r .over); calm = 0 }
+
+-- a calm point comes
+unfoldable pub calmRun : ℕ → Runs → Runs
+calmRun n r = record { over = 0; calm = longer n (r .calm) }
