@@ -1,4 +1,5 @@
+pub mod Setting
 pub mod Queue
 pub mod Ledger
-pub mod Codes
 pub mod Flat
+pub mod Store

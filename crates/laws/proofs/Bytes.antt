@@ -8,7 +8,7 @@ use native.Mathlib.Nat.{zero-add}
 use native.Mathlib.Numerals.{add-one}
 use lib.ListN.{length, take, drop, getD, set, replicate, length-append, length-set, length-take, length-replicate, List·getD-eq-default, replicate-append-replicate}
 use lib.Seq.{paste, paste-zero, paste-suc, getD-take, getD-drop, getD-append-add, take-all, drop-length, length-take-le, take-at, drop-at, drop-drop, drop-append-add, take-append-le}
-use Rattle.laws.specs.Bytes.{padded, given, zeros}
+use Rattle.laws.specs.Bytes.{padded, firstOrZeros, zeros}
 
 -- ---- a loop that copies
 -- l is d with the first i bytes of s written from at on
@@ -61,30 +61,30 @@ pub zeros-zeros : (n m : ℕ) → zeros n ++ zeros m ≡ zeros (n + m)
 unfolding zeros
 zeros-zeros n m = replicate-append-replicate n m 0
 
--- ---- bytes that are given
+-- ---- the first bytes, with zeros past an end
 getD-with-zeros : (bs : List ℕ) (n i : ℕ) → getD (bs ++ zeros n) i 0 ≡ getD bs i 0
 getD-with-zeros [] n i = getD-zeros n i
 getD-with-zeros (b ∷ bs) n zero = refl
 getD-with-zeros (b ∷ bs) n (suc i) = getD-with-zeros bs n i
 
-pub length-given : (n : ℕ) (bs : List ℕ) → length (given n bs) ≡ n
-unfolding given
-length-given n bs = length-take-le n (bs ++ zeros n) (omega (arith, length-append bs (zeros n), length-zeros n))
+pub length-first : (n : ℕ) (bs : List ℕ) → length (firstOrZeros n bs) ≡ n
+unfolding firstOrZeros
+length-first n bs = length-take-le n (bs ++ zeros n) (omega (arith, length-append bs (zeros n), length-zeros n))
 
-getD-given : (n : ℕ) (bs : List ℕ) (i : ℕ) → i < n → getD (given n bs) i 0 ≡ getD bs i 0
-unfolding given
-getD-given n bs i h = getD-take n (bs ++ zeros n) i 0 h ∙ getD-with-zeros bs n i
+getD-first : (n : ℕ) (bs : List ℕ) (i : ℕ) → i < n → getD (firstOrZeros n bs) i 0 ≡ getD bs i 0
+unfolding firstOrZeros
+getD-first n bs i h = getD-take n (bs ++ zeros n) i 0 h ∙ getD-with-zeros bs n i
 
-pub given-held : (n k : ℕ) (bs : List ℕ) (i : ℕ) → i < n → i < k → getD bs i 0 ≡ getD (given n (take k bs)) i 0
-given-held n k bs i h g = sym (getD-given n (take k bs) i h ∙ getD-take k bs i 0 g)
+pub first-held : (n k : ℕ) (bs : List ℕ) (i : ℕ) → i < n → i < k → getD bs i 0 ≡ getD (firstOrZeros n (take k bs)) i 0
+first-held n k bs i h g = sym (getD-first n (take k bs) i h ∙ getD-take k bs i 0 g)
 
-pub given-past : (n k : ℕ) (bs : List ℕ) (i : ℕ) → i < n → k ≤ i → 0 ≡ getD (given n (take k bs)) i 0
-given-past n k bs i h g = sym (getD-given n (take k bs) i h ∙ List·getD-eq-default (take k bs) 0 {n = i} (omega (arith, length-take k bs)))
+pub first-past : (n k : ℕ) (bs : List ℕ) (i : ℕ) → i < n → k ≤ i → 0 ≡ getD (firstOrZeros n (take k bs)) i 0
+first-past n k bs i h g = sym (getD-first n (take k bs) i h ∙ List·getD-eq-default (take k bs) 0 {n = i} (omega (arith, length-take k bs)))
 
 -- only the first n bytes count
-pub given-front : (n : ℕ) (x y : List ℕ) → n ≤ length x → given n (x ++ y) ≡ given n x
-unfolding given
-given-front n x y h = rw append-assoc (take-append-le n x (y ++ zeros n) h ∙ sym (take-append-le n x (zeros n) h))
+pub first-front : (n : ℕ) (x y : List ℕ) → n ≤ length x → firstOrZeros n (x ++ y) ≡ firstOrZeros n x
+unfolding firstOrZeros
+first-front n x y h = rw append-assoc (take-append-le n x (y ++ zeros n) h ∙ sym (take-append-le n x (zeros n) h))
 
 -- ---- bytes that are written into a run of bytes
 -- behind x

@@ -1,6 +1,9 @@
-// What every crate shares: a bit of a byte, two tests at once, the least of two numbers. The laws themselves are in specs/ and proofs/.
+// What every crate shares: a bit of a byte, two tests at once, the least of two numbers, bytes that move. The laws themselves are in
+// specs/ and proofs/.
 ghost use mathlib.Core.Path.{_≡_};
 ghost use Prim.Native.Nat.{min};
+ghost use lib.ListN.{length};
+ghost use Rattle.laws.specs.Bytes.{between, movedForward};
 ghost use Rattle.laws.specs.Bits as bits;
 ghost use Rattle.laws.specs.Choice as choice;
 
@@ -25,4 +28,18 @@ pub fn least(a: usize, b: usize) -> usize
     ensures { λ r. ⌜ r ≡ min a b ⌝ }
 {
     if a < b { a } else { b }
+}
+
+// The bytes of s from one place up to another, as far as it has them, move to its front: how many they are.
+pub fn move_forward(s: &mut [u8], from: usize, to: usize) -> usize
+    ensures { λ r. ⌜ (r ≡ length (between from to (now (s .entry)))) × (now (s .exit) ≡ movedForward from to (now (s .entry))) ⌝ }
+{
+    let end = least(to, s.len());
+    let n = end - least(from, end);
+    let mut i = 0;
+    while i < n {
+        s[i] = s[from + i];
+        i += 1;
+    }
+    n
 }
