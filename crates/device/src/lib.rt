@@ -2,42 +2,43 @@
 ghost use mathlib.Core.Path.{_≡_};
 ghost use lib.ListN.{length};
 ghost use Rattle.device.specs.Device.{powerUp};
-ghost use Rattle.device.specs.Pins.{pinsOf};
+ghost use Rattle.device.specs.Show.{pinsOf};
 ghost use Rattle.device.specs.Write.{writeOf};
-ghost use Rattle.device.specs.Read.{readOf, readBytes};
+ghost use Rattle.device.specs.Read.{readOf, bufferAfter};
 ghost use Rattle.device.specs.Sample.{sampleOf, cycleOf};
 use channels::Channels;
 use channels::codes_of;
+use codes::CONTROL_AT;
+use codes::FRAMES_AT;
+use codes::SHADOW_AT;
+use codes::axes_of;
+use codes::mode_of;
+use detectors::Detectors;
 use fifo::Fifo;
-use fifo::axes_of;
-use fifo::mode_of;
+use fifo::ROOM;
+use fifo::no_frames;
+use interrupts::Pin;
+use interrupts::Pins;
+use interrupts::pin_level;
 use laws::bit;
-use motion::Motion;
 use registers::Answer;
-use registers::LAST;
 use registers::is_accepted;
 use registers::judge_write;
 use registers::read_answer;
 
 mod frame;
-mod pins;
 mod reading;
-mod status;
+mod showing;
+mod verdict;
 mod writing;
 
 use frame::frame_of;
-use frame::sample_answer;
-use frame::settings_of;
-pub use pins::Level;
-pub use pins::Pins;
-use pins::first_pin;
-use pins::second_pin;
 use reading::burst;
-use status::show;
-use status::statuses_of;
-use writing::channels_after;
+use showing::Inside;
+use showing::statuses_in;
+use verdict::sample_answer;
 use writing::first_bytes;
-use writing::motion_after;
+use writing::write_channels;
 use writing::write_registers;
 
 #[repr(C)]
@@ -47,9 +48,11 @@ pub struct Device {
     // the byte of 0x08
     temperature: u8,
     // whether an accepted sample came since the last cycle start or reset
-    ready: bool,
+    came: bool,
+    // the FIFO's store, and its numbers
+    frames: [u8; ROOM],
     fifo: Fifo,
-    motion: Motion,
+    detectors: Detectors,
 }
 
 // An event's answer, and the device after it.
@@ -67,13 +70,15 @@ impl Device {
         ensures { λ r. ⌜ r ≡ powerUp ⌝ }
     {
         let regs = first_bytes();
+        let frames = no_frames();
         Device {
             regs,
             channels: Channels::empty(),
             temperature: 0,
-            ready: false,
+            came: false,
+            frames,
             fifo: Fifo::empty(),
-            motion: Motion::quiet(),
+            detectors: Detectors::quiet(),
         }
     }
 
@@ -81,22 +86,21 @@ impl Device {
     pub fn write(mut self, address: u8, byte: u8) -> Answered
         ensures { λ r. ⌜ r ≡ writeOf self address byte ⌝ }
     {
-        let judged = judge_write(address, byte);
-        let answer = judged.answer;
-        let effect = judged.effect;
         let mut regs = self.regs;
-        write_registers(&mut regs, effect, address, judged.stored);
+        let judged = judge_write(&regs, address, byte);
+        let answer = judged.answer;
+        let deeds = judged.deeds;
+        write_registers(&mut regs, deeds, address, judged.stored);
         self.regs = regs;
         let channels = self.channels;
-        self.channels = channels_after(effect, channels);
-        let motion = self.motion;
-        self.motion = motion_after(effect, motion);
-        if effect.empties() {
-            self.fifo = Fifo::empty();
-        }
-        if effect.resets() {
+        self.channels = write_channels(channels, deeds);
+        let detectors = self.detectors;
+        self.detectors = detectors.after_write(deeds);
+        let fifo = self.fifo;
+        self.fifo = fifo.emptied_when(&mut self.frames, deeds.empties);
+        if deeds.resets {
             self.temperature = 0;
-            self.ready = false;
+            self.came = false;
         }
         Answered {
             answer,
@@ -106,28 +110,26 @@ impl Device {
 
     // A burst read into a lent buffer, whose own length is the read length.
     pub fn read(mut self, address: u8, buffer: &mut [u8]) -> Answered
-        ensures { λ r. ⌜ (r ≡ readOf self address (length (now (buffer .entry)))) × (now (buffer .exit) ≡ readBytes self address (now (buffer .entry))) ⌝ }
+        ensures { λ r. ⌜ (r ≡ readOf self address (length (now (buffer .entry)))) × (now (buffer .exit) ≡ bufferAfter self address (now (buffer .entry))) ⌝ }
     {
         let answer = read_answer(address, buffer.len());
         if is_accepted(answer) {
-            if address as usize == LAST {
-                let fifo = self.fifo;
-                self.fifo = fifo.readout(Device::DEPTH, axes_of(self.regs[0x3E]), buffer);
+            let fifo = self.fifo;
+            let regs = self.regs;
+            if address as usize == FRAMES_AT {
+                let axes = axes_of(regs[CONTROL_AT]);
+                self.fifo = fifo.readout(&mut self.frames, Device::DEPTH, axes, buffer);
             } else {
-                let regs = self.regs;
-                let motion = self.motion;
-                let fifo = self.fifo;
-                let count = fifo.count(Device::DEPTH);
-                let statuses = statuses_of(&regs, count, self.ready, motion.is_set());
-                let shown = show(
-                    statuses,
-                    self.temperature,
-                    motion.marks(),
-                    fifo.status(Device::DEPTH),
-                );
+                let detectors = self.detectors;
                 let channels = self.channels;
-                let locks = !bit(regs[0x13], 6);
-                self.channels = burst(channels, locks, shown, &regs, address, buffer);
+                let inside = Inside {
+                    temperature: self.temperature,
+                    came: self.came,
+                    fifo,
+                    detectors,
+                };
+                let locks = !bit(regs[SHADOW_AT], 6);
+                self.channels = burst(channels, locks, inside, &regs, address, buffer);
             }
         }
         Answered {
@@ -143,18 +145,19 @@ impl Device {
         let answer = sample_answer(x, y, z);
         if is_accepted(answer) {
             let codes = codes_of(x, y, z);
-            let control = self.regs[0x3E];
+            let regs = self.regs;
+            let control = regs[CONTROL_AT];
             let axes = axes_of(control);
+            let mode = mode_of(control);
             let channels = self.channels;
             self.channels = channels.sample(codes);
             self.temperature = temperature;
-            self.ready = true;
+            self.came = true;
+            let frame = frame_of(axes, codes);
             let fifo = self.fifo;
-            self.fifo = fifo.push(Device::DEPTH, mode_of(control), axes, frame_of(axes, codes));
-            let motion = self.motion;
-            let regs = self.regs;
-            let settings = settings_of(&regs);
-            self.motion = motion.sample(settings, x, y, z);
+            self.fifo = fifo.push(&mut self.frames, Device::DEPTH, mode, axes, frame);
+            let detectors = self.detectors;
+            self.detectors = detectors.sample(&regs, x, y, z);
         }
         Answered {
             answer,
@@ -166,7 +169,7 @@ impl Device {
     pub fn start_cycle(mut self) -> Answered
         ensures { λ r. ⌜ r ≡ cycleOf self ⌝ }
     {
-        self.ready = false;
+        self.came = false;
         Answered {
             answer: Answer::Done,
             device: self,
@@ -178,13 +181,18 @@ impl Device {
         ensures { λ r. ⌜ r ≡ pinsOf self ⌝ }
     {
         let regs = self.regs;
-        let motion = self.motion;
         let fifo = self.fifo;
-        let count = fifo.count(Device::DEPTH);
-        let statuses = statuses_of(&regs, count, self.ready, motion.is_set());
+        let detectors = self.detectors;
+        let inside = Inside {
+            temperature: self.temperature,
+            came: self.came,
+            fifo,
+            detectors,
+        };
+        let statuses = statuses_in(&regs, inside);
         Pins {
-            int1: first_pin(statuses, &regs),
-            int2: second_pin(statuses, &regs),
+            int1: pin_level(Pin::Int1, statuses, &regs),
+            int2: pin_level(Pin::Int2, statuses, &regs),
         }
     }
 }

@@ -1,12 +1,13 @@
-// What a write does to each part of the device.
+// What a write does to the registers and the channels.
 ghost use mathlib.Core.Path.{_≡_};
 ghost use Rattle.device.specs.Device.{firstBytes};
-ghost use Rattle.device.specs.Write.{afterReset, storedAt, regsAfter, channelsAfter, motionAfter};
+ghost use Rattle.device.specs.Write.{regsReset, storedAt, regsWritten, channelsWritten};
 use crate::Device;
 use channels::Channels;
-use motion::Motion;
-use registers::Effect;
-use registers::reset_bytes;
+use codes::FIRST_SPARE_AT;
+use codes::SECOND_SPARE_AT;
+use registers::Deeds;
+use table::reset_bytes;
 
 // The register bytes at power-up.
 pub fn first_bytes() -> [u8; 64]
@@ -29,53 +30,36 @@ fn store(regs: &mut [u8; 64], address: u8, byte: u8)
 
 // As at power-up, but for 0x3B and 0x3C.
 fn soft_reset(regs: &mut [u8; 64])
-    ensures { λ _. ⌜ now (regs .exit) ≡ afterReset (now (regs .entry)) ⌝ }
+    ensures { λ _. ⌜ now (regs .exit) ≡ regsReset (now (regs .entry)) ⌝ }
 {
     let mut bytes = first_bytes();
-    bytes[0x3B] = regs[0x3B];
-    bytes[0x3C] = regs[0x3C];
+    bytes[FIRST_SPARE_AT] = regs[FIRST_SPARE_AT];
+    bytes[SECOND_SPARE_AT] = regs[SECOND_SPARE_AT];
     *regs = bytes;
 }
 
 // The registers.
-pub fn write_registers(regs: &mut [u8; 64], effect: Effect, address: u8, byte: u8)
-    ensures { λ _. ⌜ now (regs .exit) ≡ regsAfter effect address byte (now (regs .entry)) ⌝ }
+pub fn write_registers(regs: &mut [u8; 64], deeds: Deeds, address: u8, byte: u8)
+    ensures { λ _. ⌜ now (regs .exit) ≡ regsWritten deeds address byte (now (regs .entry)) ⌝ }
 {
-    if effect.resets() {
+    if deeds.resets {
         soft_reset(regs);
         return;
     }
-    if effect.stores() {
+    if deeds.stores {
         store(regs, address, byte);
     }
 }
 
 // The data channels.
-pub fn channels_after(effect: Effect, channels: Channels) -> Channels
-    ensures { λ r. ⌜ r ≡ channelsAfter effect channels ⌝ }
+pub fn write_channels(channels: Channels, deeds: Deeds) -> Channels
+    ensures { λ r. ⌜ r ≡ channelsWritten deeds channels ⌝ }
 {
-    match effect {
-        Effect::Nothing => channels,
-        Effect::Plain => channels,
-        Effect::Forget => channels,
-        Effect::Restart => channels,
-        Effect::Release => channels.release(),
-        Effect::Empty => channels,
-        Effect::Reset => Channels::empty(),
+    if deeds.resets {
+        return Channels::empty();
     }
-}
-
-// The detector.
-pub fn motion_after(effect: Effect, motion: Motion) -> Motion
-    ensures { λ r. ⌜ r ≡ motionAfter effect motion ⌝ }
-{
-    match effect {
-        Effect::Nothing => motion,
-        Effect::Plain => motion,
-        Effect::Forget => motion.forget(),
-        Effect::Restart => motion.restart(),
-        Effect::Release => motion,
-        Effect::Empty => motion,
-        Effect::Reset => Motion::quiet(),
+    if deeds.releases {
+        return channels.release();
     }
+    channels
 }
