@@ -5,6 +5,7 @@ use Prim.Native.Nat.{ℕ, _<_}
 use mathlib.Core.Bool.{Bool, true, false}
 use mathlib.Core.Path.{_≡_, refl, sym, ap, _∙_}
 use mathlib.Core.List.{List, [], _∷_}
+use native.Mathlib.Omega.{arith}
 use lib.Dec.{eqb}
 use lib.ListN.{getD}
 use borrow.Author.Tests.{eqb-true}
@@ -34,14 +35,35 @@ pub right : (b c : Bool) → both b c ≡ true → c ≡ true
 right true c h = h
 right false c h = cc
 
+-- what holds at each number of a list holds at any number that is in it
+abbrev pub AtEach : (ℕ → Type 0) → List ℕ → Type 0
+AtEach P [] = Unit {0}
+AtEach P (b ∷ l) = P b × AtEach P l
+
+pub at-any : (P : ℕ → Type 0) (l : List ℕ) → AtEach P l → (a : ℕ) → isIn l a ≡ true → P a
+at-any P [] ps a h = let z : _≡_ {A = ℕ} 0 1 = cc in absurd (omega arith)
+at-any P (b ∷ l) ps a h = go (at-any P l (ps .1) a) (eqb a b) refl
+  where
+    go : (isIn l a ≡ true → P a) → (t : Bool) → eqb a b ≡ t → P a
+    go later true f = rw (eqb-true a b f) (ps .0)
+    go later false f = later (rw f at h)
+
+-- the same of a test that is computed at each
 abbrev pub all : (ℕ → Bool) → List ℕ → Bool
 all p [] = true
 all p (b ∷ l) = both (p b) (all p l)
 
+at-each : (p : ℕ → Bool) (l : List ℕ) → all p l ≡ true → AtEach (λ k. p k ≡ true) l
+at-each p [] e = tt
+at-each p (b ∷ l) e = (left (p b) (all p l) e, at-each p l (right (p b) (all p l) e))
+
 pub each : (p : ℕ → Bool) (l : List ℕ) → all p l ≡ true → (a : ℕ) → isIn l a ≡ true → p a ≡ true
-each p [] e a h = cc
-each p (b ∷ l) e a h = go (each p l (right (p b) (all p l) e) a) (eqb a b) refl
+each p l e = at-any (λ k. p k ≡ true) l (at-each p l e)
+
+-- two tests that agree at one number agree wherever that number is tested for too
+pub agree-at : (f g : ℕ → Bool) (k : ℕ) → f k ≡ g k → (a : ℕ) → both (eqb a k) (f a) ≡ both (eqb a k) (g a)
+agree-at f g k e a = go (eqb a k) refl
   where
-    go : (isIn l a ≡ true → p a ≡ true) → (t : Bool) → eqb a b ≡ t → p a ≡ true
-    go rest true f = rw (eqb-true a b f) (left (p b) (all p l) e)
-    go rest false f = rest (rw f at h)
+    go : (t : Bool) → eqb a k ≡ t → both t (f a) ≡ both t (g a)
+    go true h = rw (eqb-true a k h) e
+    go false h = refl
