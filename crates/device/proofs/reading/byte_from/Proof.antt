@@ -11,4 +11,4 @@ byte-from-spec =
     (λ c κs. tt)
     (λ c κs. tt)
     (λ c. simp (← c .before .before .is-data .ensures, c .before .if1 .taken, c .byte .ensures))
-    (λ c. simp (← c .before .before .is-data .ensures, c .before .if1 .left, c .plain-byte .ensures)))
+    (λ c. simp (← c .before .before .is-data .ensures, c .before .if1 .left, c .shown-byte .ensures)))

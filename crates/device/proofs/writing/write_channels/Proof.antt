@@ -1,24 +1,12 @@
-use borrow.Author.Needs.{needs}
-use Rattle.device.proofs.writing.channels_after.Statement.{statement}
-use Rattle.device.proofs.writing.channels_after.Tie as tie
+use Rattle.device.proofs.writing.write_channels.Statement.{statement}
+use Rattle.device.proofs.writing.write_channels.Tie as tie
 
-pub channels-after-spec : {M : Type 1} → statement M
-channels-after-spec =
+pub write-channels-spec : {M : Type 1} → statement M
+write-channels-spec =
     tie.close
     (tie.spec
-    (λ c. search needs)
-    (λ c. search needs)
-    (λ c. search needs)
-    (λ c. search needs)
-    (λ c. search needs)
     (λ c κs. tt)
-    (λ c. search needs)
-    (λ c. search needs)
+    (λ c. simp (c .before .if1 .taken, c .empty .ensures))
     (λ c κs. tt)
-    (λ c. search needs)
-    (λ c. search needs)
-    (λ c. search needs)
-    (λ c. search needs)
-    (λ c. simp (c .before .enum-told5 .given .1, c .release .ensures))
-    (λ c. search needs)
-    (λ c. search needs))
+    (λ c. simp (c .before .before .if1 .left, c .before .if2 .taken, c .release .ensures))
+    (λ c. simp (c .before .if1 .left, c .if2 .left)))

@@ -6,9 +6,7 @@ write-registers-spec =
     tie.close
     (tie.spec
     (λ c κs. tt)
+    (λ c. simp (c .before .if1 .taken, c .soft-reset .ensures))
     (λ c κs. tt)
-    (λ c. simp (← c .before .before .before .resets .ensures, c .before .before .if1 .taken, c .soft-reset .ensures))
-    (λ c κs. tt)
-    (λ c κs. tt)
-    (λ c. simp (← c .before .before .before .before .before .resets .ensures, c .before .before .before .before .if1 .left, ← c .before .before .before .stores .ensures, c .before .before .if2 .taken, c .store .ensures))
-    (λ c. simp (← c .before .before .before .resets .ensures, c .before .before .if1 .left, ← c .before .stores .ensures, c .if2 .left)))
+    (λ c. simp (c .before .before .if1 .left, c .before .if2 .taken, c .store .ensures))
+    (λ c. simp (c .before .if1 .left, c .if2 .left)))
