@@ -1,6 +1,6 @@
 -- `codes::axes_of` meets its contract: the tests of the definition are the code's.
-use borrow.Author.Tests.{ne-eqb}
-use Rattle.codes.specs.Axes.{axesOf}
+use Rattle.laws.proofs.Keys.{rest}
+use Rattle.codes.specs.Axes.{choices, axesOf}
 use Rattle.codes.proofs.axes_of.Statement.{statement}
 use Rattle.codes.proofs.axes_of.Tie as tie
 
@@ -12,4 +12,4 @@ axes-of-spec =
     (λ c. simp (c .match .keys1))
     (λ c. simp (c .match .keys2))
     (λ c. simp (c .match .keys3))
-    (λ c. simp (ne-eqb _ 0 (c .match .rest .0 .0 .1), ne-eqb _ 1 (c .match .rest .0 .1), ne-eqb _ 2 (c .match .rest .1))))
+    (λ c. rest _ choices _ _ (c .match .rest)))

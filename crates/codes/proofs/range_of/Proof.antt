@@ -1,5 +1,5 @@
-use borrow.Author.Tests.{ne-eqb}
-use Rattle.codes.specs.Range.{rangeOf}
+use Rattle.laws.proofs.Keys.{rest}
+use Rattle.codes.specs.Range.{ranges, rangeOf}
 use Rattle.codes.proofs.range_of.Statement.{statement}
 use Rattle.codes.proofs.range_of.Tie as tie
 
@@ -12,4 +12,4 @@ range-of-spec =
     (λ c. simp (c .match .keys2))
     (λ c. simp (c .match .keys3))
     (λ c. simp (c .match .keys4))
-    (λ c. let r = c .match .rest in simp (ne-eqb _ _ (r .0 .0 .0 .1), ne-eqb _ _ (r .0 .0 .1), ne-eqb _ _ (r .0 .1), ne-eqb _ _ (r .1))))
+    (λ c. rest _ ranges _ _ (c .match .rest)))
