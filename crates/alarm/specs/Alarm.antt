@@ -6,7 +6,7 @@ use mathlib.Core.Path.{_≡_}
 use lib.Dec.{eqb}
 use Rattle.laws.specs.Choice.{pick}
 use Rattle.laws.specs.Bits.{worth}
-use Rattle.laws.specs.Refusals.{isIn}
+use Rattle.laws.specs.Lists.{isIn}
 use Rattle.alarm.specs.declared.Alarm.{Alarm}
 
 -- as at power-up
