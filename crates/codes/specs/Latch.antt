@@ -1,20 +1,17 @@
 -- 01, "Register table", 21: the latch mode.
 use Prim.Native.Nat.{ℕ, _%_}
 use mathlib.Core.Bool.{Bool, true, false}
-use lib.Dec.{eqb}
-use Rattle.laws.specs.Choice.{pick, either}
+use mathlib.Core.List.{List, [], _∷_}
+use Rattle.laws.specs.Keys.{Key, _means_, meaningOf}
 use Rattle.codes.specs.declared.Latch.{Latch}
 use Rattle.codes.specs.declared.Latch.the-variants.{Unlatched, Latched, NotModelled}
 
 -- "low nibble 0000 and 1000 non-latched, 0111 and 1111 latched; others are refused 3"
-unfoldable pub latchOfNibble : ℕ → Latch
-latchOfNibble code =
-    pick (either (eqb code 0b0000) (eqb code 0b1000)) Unlatched
-    (pick (either (eqb code 0b0111) (eqb code 0b1111)) Latched
-    NotModelled)
+abbrev pub latches : List (Key Latch)
+latches = 0b0000 means Unlatched ∷ 0b1000 means Unlatched ∷ 0b0111 means Latched ∷ 0b1111 means Latched ∷ []
 
-abbrev pub latchOf : ℕ → Latch
-latchOf byte = latchOfNibble (byte % 16)
+unfoldable pub latchOf : ℕ → Latch
+latchOf byte = meaningOf latches NotModelled (byte % 16)
 
 abbrev pub isModelled : Latch → Bool
 isModelled Unlatched = true

@@ -108,8 +108,10 @@ pub fn latch_of(byte: u8) -> Latch
 {
     let code = byte % 16;
     match code {
-        0b0000 | 0b1000 => Latch::Unlatched,
-        0b0111 | 0b1111 => Latch::Latched,
+        0b0000 => Latch::Unlatched,
+        0b1000 => Latch::Unlatched,
+        0b0111 => Latch::Latched,
+        0b1111 => Latch::Latched,
         _ => Latch::NotModelled,
     }
 }

@@ -10,7 +10,6 @@ pub record Key (A : Type 0) : Type 0 where
   pub meaning : A
 
 infix 90 _means_
-
 abbrev pub _means_ : {A : Type 0} → ℕ → A → Key A
 n means x = record { code = n; meaning = x }
 

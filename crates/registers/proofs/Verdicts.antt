@@ -69,7 +69,7 @@ module _ (regs : List ℕ) (a b : ℕ) where
   unfolding judgement
   of-deeds f = of-pick f ok (deedsOf regs (rowAt a) a b) noDeeds
 
-  pub stores-is : judgement regs a b .deeds .stores ≡ both ok (writable a)
+  pub stores-is : judgement regs a b .deeds .stores ≡ both (accepted (writeAnswer regs a b)) (writable a)
   unfolding deedsOf
   stores-is = of-deeds (λ d. d .stores) ∙ go ok
     where

@@ -1,4 +1,3 @@
--- `codes::axes_of` meets its contract: the tests of the definition are the code's.
 use Rattle.laws.proofs.Keys.{rest}
 use Rattle.codes.specs.Axes.{choices, axesOf}
 use Rattle.codes.proofs.axes_of.Statement.{statement}

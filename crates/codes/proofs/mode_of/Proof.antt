@@ -1,4 +1,3 @@
--- `codes::mode_of` meets its contract: the tests of the definition are the code's.
 use Rattle.laws.proofs.Keys.{rest}
 use Rattle.codes.specs.Mode.{modes, modeOf}
 use Rattle.codes.proofs.mode_of.Statement.{statement}

@@ -1,4 +1,5 @@
-use borrow.Author.Tests.{ne-eqb}
+use Rattle.laws.proofs.Keys.{absent}
+use Rattle.registers.specs.Deeds.{restarting}
 use Rattle.registers.proofs.is_restarting.Statement.{statement}
 use Rattle.registers.proofs.is_restarting.Tie as tie
 
@@ -11,4 +12,4 @@ is-restarting-spec =
     (λ c. simp (c .match .keys3))
     (λ c. simp (c .match .keys4))
     (λ c. simp (c .match .keys5))
-    (λ c. let r = c .match .rest in simp (ne-eqb _ _ (r .0 .0 .0 .0 .1), ne-eqb _ _ (r .0 .0 .0 .1), ne-eqb _ _ (r .0 .0 .1), ne-eqb _ _ (r .0 .1), ne-eqb _ _ (r .1))))
+    (λ c. absent _ restarting _ (c .match .rest)))
