@@ -79,7 +79,7 @@ impl Detectors {
         if deeds.forgets {
             self.previous = previous.forget();
         }
-        if deeds.restarts_motion {
+        if deeds.restarts {
             self.motion = motion.restart();
         }
         if deeds.resets {
