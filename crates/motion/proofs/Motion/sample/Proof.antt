@@ -18,8 +18,8 @@ sample-spec =
     (λ c. rw (← c .before .before .judge .ensures, c .enum-told .given .1))
     (λ c.
     let j = c .before .before .before in
-    rw (← j .judge .ensures, c .before .enum-told2 .given .1, ← j .before .points-needed .ensures) (c .after-calm .ensures))
+    rw (← j .judge .ensures, c .before .enum-told2 .given .1, ← j .before .points-needed .ensures, c .after-calm .ensures))
     (λ c.
     let p = c .before .before in
     let j = p .before .before in
-    rw (← j .judge .ensures, p .point .given .1, ← j .before .points-needed .ensures) (c .after-over .ensures)))
+    rw (← j .judge .ensures, p .point .given .1, ← j .before .points-needed .ensures, c .after-over .ensures)))
