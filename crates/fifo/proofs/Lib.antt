@@ -1,3 +1,4 @@
-pub mod Codes
+pub mod Bounds
 pub mod Conserve
 pub mod Meaning
+pub mod Store

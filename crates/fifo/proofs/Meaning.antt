@@ -1,5 +1,4 @@
--- What callers need of the store: the one that is packed from frames stays packed, and means those frames. Over any room, depth,
--- drop rule and frame size.
+-- The store that is packed from frames stays packed, and means those frames. Over any room, depth, drop rule and frame size.
 -- Assumes nothing.
 use Prim.Native.Nat.{ℕ, zero, suc, _+_, _-_, _*_, _≤_, min}
 use mathlib.Core.Path.{_≡_, refl, ap, sym, _∙_}
@@ -11,14 +10,13 @@ use lib.ListN.{length, take, drop, length-append, length-drop, take-append-drop}
 use lib.Seq.{paste, take-all, take-at, length-take-le, drop-nil}
 use lib.Dec.{ltb}
 use borrow.Author.Tests.{ltb-true, ltb-false}
-use Rattle.laws.specs.Bytes.{zeros, padded, given}
-use Rattle.laws.proofs.Bytes.{length-zeros, zeros-zeros, given-front, paste-padded, paste-moved}
+use Rattle.laws.specs.Bytes.{zeros, padded, firstOrZeros}
+use Rattle.laws.proofs.Bytes.{length-zeros, zeros-zeros, first-front, paste-padded, paste-moved}
 use Rattle.fifo.specs.declared.Drop.{Drop}
 use Rattle.fifo.specs.declared.Drop.the-variants.{Newcomer, Oldest}
 use Rattle.fifo.specs.declared.Setting.{Setting}
-use Rattle.fifo.specs.Codes as codes
 use Rattle.fifo.specs.Queue.{Queue, reached, empty, pushed, without}
-use Rattle.fifo.specs.Flat.{flat, packed, heldFrames, behind, forward, vacated, flatPushed, flatRead, bytesRead, fifoOf, noFrames}
+use Rattle.fifo.specs.Flat.{flat, packed, heldFrames, behind, forward, vacated, flatPushed, flatRead, bytesRead}
 
 -- every frame has size bytes
 abbrev pub Sized : ℕ → List (List ℕ) → Type 0
@@ -26,7 +24,7 @@ Sized size [] = Unit
 Sized size (f ∷ fs) = (length f ≡ size) × Sized size fs
 
 -- at most most frames of size bytes, for which room bytes are enough
-pub record Fits (room most size : ℕ) (q : Queue (List ℕ)) : Type 0 where
+pub record Framed (room most size : ℕ) (q : Queue (List ℕ)) : Type 0 where
   pub few : length (q .frames) ≤ most
   pub sized : Sized size (q .frames)
   pub space : most * size ≤ room
@@ -74,7 +72,8 @@ module _ (size : ℕ) where
       let n = length fs in
       let a : length (flat (take k fs)) ≡ k * size = length-flat (take k fs) (sized-take k fs s) ∙ rw (length-take-le k fs h) in
       let b : length (flat (drop k fs)) ≡ (n - k) * size = length-flat (drop k fs) (sized-drop k fs s) ∙ rw length-drop in
-      rw (e, length-flat fs s, flat-split k fs) (paste-moved (flat (take k fs)) (flat (drop k fs)) (zeros (room - n * size)) src (k * size) ((n - k) * size) a b)
+      let l : length (flat (take k fs) ++ flat (drop k fs)) ≡ n * size = ap length (sym (flat-split k fs)) ∙ length-flat fs s in
+      rw (e, length-flat fs s, flat-split k fs) (paste-moved (flat (take k fs)) (flat (drop k fs)) (zeros (room - n * size)) src (k * size) ((n - k) * size) (n * size) a b l)
 
   -- and zeros are written there
   cleared : (room k : ℕ) (fs : List (List ℕ)) → Sized size fs → k ≤ length fs → length fs * size ≤ room → vacated size (length fs) k (forward size (length fs) k (padded room (flat fs))) ≡ padded room (flat (drop k fs))
@@ -85,22 +84,22 @@ module _ (size : ℕ) where
       moved room k fs (zeros (k * size)) (k * size) s h refl
       ∙ rw (take-all (k * size) (zeros (k * size)) (omega (arith, length-zeros (k * size))), append-assoc, zeros-zeros, z)
 
--- ---- what fits
-pub fits-empty : (room most size : ℕ) → most * size ≤ room → Fits room most size empty
-fits-empty room most size h = record { few = omega arith; sized = tt; space = h }
+-- ---- frames that a store has room for
+pub framed-empty : (room most size : ℕ) → most * size ≤ room → Framed room most size empty
+framed-empty room most size h = record { few = omega arith; sized = tt; space = h }
 
-pub fits-without : {room most size : ℕ} (k : ℕ) {q : Queue (List ℕ)} → Fits room most size q → Fits room most size (without k q)
-fits-without {size = size} k {q} w = record {
+pub framed-without : {room most size : ℕ} (k : ℕ) {q : Queue (List ℕ)} → Framed room most size q → Framed room most size (without k q)
+framed-without {size = size} k {q} w = record {
   few = omega (arith, length-drop k (q .frames));
   sized = sized-drop size k (q .frames) (w .sized);
   space = w .space;
 }
 
-module _ {room most : ℕ} (s : Setting) {q : Queue (List ℕ)} (w : Fits room most (s .size) q) (some : s .drops ≡ Oldest → 1 ≤ s .depth) where
-  pub fits-pushed : (a : List ℕ) → s .depth ≤ most → length a ≡ s .size → Fits room most (s .size) (pushed s q a)
-  fits-pushed a h l = go (ltb (length (q .frames)) (s .depth)) refl (s .drops) refl
+module _ {room most : ℕ} (s : Setting) {q : Queue (List ℕ)} (w : Framed room most (s .size) q) (some : s .drops ≡ Oldest → 1 ≤ s .depth) where
+  pub framed-pushed : (a : List ℕ) → s .depth ≤ most → length a ≡ s .size → Framed room most (s .size) (pushed s q a)
+  framed-pushed a h l = go (ltb (length (q .frames)) (s .depth)) refl (s .drops) refl
     where
-      go : (b : Bool) → ltb (length (q .frames)) (s .depth) ≡ b → (d : Drop) → s .drops ≡ d → Fits room most (s .size) (pushed s q a)
+      go : (b : Bool) → ltb (length (q .frames)) (s .depth) ≡ b → (d : Drop) → s .drops ≡ d → Framed room most (s .size) (pushed s q a)
       go true e d f = rw e record { few = omega (arith, ltb-true, length-append (q .frames) (a ∷ [])); sized = sized-snoc (s .size) (q .frames) a (w .sized) l; space = w .space }
       go false e Newcomer f = rw (e, f) record { few = w .few; sized = w .sized; space = w .space }
       go false e Oldest f = rw (e, f) record {
@@ -109,9 +108,9 @@ module _ {room most : ℕ} (s : Setting) {q : Queue (List ℕ)} (w : Fits room m
         space = w .space;
       }
 
-  pub pushed-packed : (frame : List ℕ) → s .size ≤ length frame → flatPushed most s frame (packed room q) ≡ packed room (pushed s q (take (s .size) frame))
+  pub flat-pushed : (frame : List ℕ) → s .size ≤ length frame → flatPushed most s frame (packed room q) ≡ packed room (pushed s q (take (s .size) frame))
   unfolding flatPushed packed padded
-  pushed-packed frame h = go (ltb (length (q .frames)) (s .depth)) refl (s .drops) refl
+  flat-pushed frame h = go (ltb (length (q .frames)) (s .depth)) refl (s .drops) refl
     where
       fs : List (List ℕ)
       fs = q .frames
@@ -137,40 +136,36 @@ module _ {room most : ℕ} (s : Setting) {q : Queue (List ℕ)} (w : Fits room m
           rw (flat-snoc, ← l) (moved (s .size) room 1 fs frame (s .size) (w .sized) o (sym (one-mul (s .size)))) in
           rw (m, e, f) (λ i. record { bytes = p i; count = c i; overrun = true })
 
-module _ {room most size : ℕ} {q : Queue (List ℕ)} (w : Fits room most size q) where
-  pub count-packed : heldFrames most (packed room q) ≡ length (q .frames)
+module _ {room most size : ℕ} {q : Queue (List ℕ)} (w : Framed room most size q) where
+  pub flat-held : heldFrames most (packed room q) ≡ length (q .frames)
   unfolding packed
-  count-packed = omega (arith, w .few)
+  flat-held = omega (arith, w .few)
 
-  pub bytes-packed : (b : ℕ) → bytesRead most size b (packed room q) ≡ given b (flat (q .frames))
+  pub flat-bytes : (b : ℕ) → bytesRead most size b (packed room q) ≡ firstOrZeros b (flat (q .frames))
   unfolding bytesRead packed padded
-  bytes-packed b = rw (count-packed, take-at (flat (q .frames)) _ (length (q .frames) * size) (length-flat size (q .frames) (w .sized)))
+  flat-bytes b = rw (flat-held, take-at (flat (q .frames)) _ (length (q .frames) * size) (length-flat size (q .frames) (w .sized)))
 
-  pub read-packed : (b : ℕ) → flatRead most size b (packed room q) ≡ packed room (without (reached size b) q)
+  pub flat-read : (b : ℕ) → flatRead most size b (packed room q) ≡ packed room (without (reached size b) q)
   unfolding flatRead packed padded
-  read-packed b =
+  flat-read b =
       let fs = q .frames in
       let k = min (reached size b) (length fs) in
       let d : drop k fs ≡ drop (reached size b) fs = drop-held (reached size b) fs in
       let p = cleared size room k fs (w .sized) (omega arith) (omega (arith, mul-le-mul-right size (w .few))) in
       let c : length fs - k ≡ length (drop k fs) = sym (length-drop k fs) in
-      rw (count-packed, ← d) (λ i. record { bytes = p i; count = c i; overrun = q .overrun })
+      rw (flat-held, ← d) (λ i. record { bytes = p i; count = c i; overrun = q .overrun })
 
 -- ---- the bytes that a readout gives
 -- the frames that b bytes reach have b bytes
 reached-covers : (size b : ℕ) → 1 ≤ size → b ≤ reached size b * size
 reached-covers size b h = omega (arith, lt-div-mul-add {a = b + (size - 1)} {b = size} h)
 
-pub given-taken : (size b : ℕ) (fs : List (List ℕ)) → 1 ≤ size → Sized size fs → given b (flat fs) ≡ given b (flat (take (reached size b) fs))
-given-taken size b fs h s = go (ltb (length fs) (reached size b)) refl
+pub first-taken : (size b : ℕ) (fs : List (List ℕ)) → 1 ≤ size → Sized size fs → firstOrZeros b (flat fs) ≡ firstOrZeros b (flat (take (reached size b) fs))
+first-taken size b fs h s = go (ltb (length fs) (reached size b)) refl
   where
-    go : (t : Bool) → ltb (length fs) (reached size b) ≡ t → given b (flat fs) ≡ given b (flat (take (reached size b) fs))
+    go : (t : Bool) → ltb (length fs) (reached size b) ≡ t → firstOrZeros b (flat fs) ≡ firstOrZeros b (flat (take (reached size b) fs))
     go true e = rw (take-all (reached size b) fs (omega (arith, ltb-true)))
     go false e =
         let r = reached size b in
         let l : length (flat (take r fs)) ≡ r * size = length-flat size (take r fs) (sized-take size r fs s) ∙ rw (length-take-le r fs (ltb-false (length fs) r e)) in
-        ap (λ (x : List ℕ). given b x) (flat-split r fs) ∙ given-front b (flat (take r fs)) (flat (drop r fs)) (omega (arith, reached-covers size b h))
-
-pub empty-packed : noFrames ≡ fifoOf (packed codes.room empty)
-unfolding noFrames packed padded
-empty-packed = refl
+        ap (λ (x : List ℕ). firstOrZeros b x) (flat-split r fs) ∙ first-front b (flat (take r fs)) (flat (drop r fs)) (omega (arith, reached-covers size b h))

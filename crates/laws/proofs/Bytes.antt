@@ -1,14 +1,14 @@
 -- Laws of copies in a store of bytes, and of zeros past an end.
 -- Assumes nothing.
-use Prim.Native.Nat.{ℕ, zero, suc, _+_, _-_, _≤_, _<_}
+use Prim.Native.Nat.{ℕ, zero, suc, _+_, _-_, _≤_, _<_, min}
 use mathlib.Core.Path.{_≡_, refl, ap, sym, _∙_}
 use mathlib.Core.List.{List, [], _∷_, _++_, append-nil, append-assoc}
 use native.Mathlib.Omega.{arith}
 use native.Mathlib.Nat.{zero-add}
 use native.Mathlib.Numerals.{add-one}
-use lib.ListN.{length, take, drop, getD, set, replicate, length-append, length-set, length-take, length-replicate, List·getD-eq-default, replicate-append-replicate}
-use lib.Seq.{paste, paste-zero, paste-suc, getD-take, getD-drop, getD-append-add, take-all, drop-length, length-take-le, take-at, drop-at, drop-drop, drop-append-add, take-append-le}
-use Rattle.laws.specs.Bytes.{padded, firstOrZeros, zeros}
+use lib.ListN.{length, take, drop, getD, set, replicate, length-append, length-set, length-take, length-drop, length-replicate, List·getD-eq-default, replicate-append-replicate}
+use lib.Seq.{paste, paste-zero, paste-suc, getD-take, getD-drop, getD-append-add, take-all, take-length, drop-length, length-take-le, take-at, drop-at, drop-drop, drop-append-add, take-append-le}
+use Rattle.laws.specs.Bytes.{padded, firstOrZeros, zeros, between, movedForward}
 
 -- ---- a loop that copies
 -- l is d with the first i bytes of s written from at on
@@ -97,11 +97,23 @@ paste-padded room x s at n e h =
     let z : room - length x - n ≡ room - length (x ++ take n s) = omega (arith, length-append x (take n s), length-take-le n s h) in
     rw (paste-behind x _ s at n e, drop-zeros, z)
 
--- b moves to the front, over a, and s is written behind it
-pub paste-moved : (a b z s : List ℕ) (p q : ℕ) → length a ≡ p → length b ≡ q → paste (paste (a ++ b ++ z) 0 (drop p (a ++ b ++ z)) q) q s p ≡ b ++ take p s ++ z
-paste-moved a b z s p q ea eb =
+-- ---- bytes that move to the front
+pub length-between : (from to : ℕ) (bs : List ℕ) → length (between from to bs) ≡ min to (length bs) - from
+length-between from to bs = length-drop from (take to bs) ∙ rw length-take
+
+pub getD-between : (from to : ℕ) (bs : List ℕ) (i : ℕ) → from + i < to → getD (between from to bs) i 0 ≡ getD bs (from + i) 0
+getD-between from to bs i h = getD-drop from (take to bs) i 0 ∙ getD-take to bs (from + i) 0 h
+
+pub copied-forward : (from to : ℕ) {i : ℕ} {bs l : List ℕ} → i ≡ length (between from to bs) → Copied bs 0 (between from to bs) i l → l ≡ movedForward from to bs
+unfolding movedForward
+copied-forward from to {bs = bs} e g = copied-all (length (between from to bs)) e g ∙ rw (take-length (between from to bs), zero-add)
+
+-- of a and b, b moves to the front, and s is written behind it
+pub paste-moved : (a b z s : List ℕ) (p q r : ℕ) → length a ≡ p → length b ≡ q → length (a ++ b) ≡ r → paste (movedForward p r (a ++ b ++ z)) q s p ≡ b ++ take p s ++ z
+unfolding movedForward
+paste-moved a b z s p q r ea eb er =
     let d = a ++ b ++ z in
     let l : length (a ++ b) ≡ q + p = omega (arith, length-append a b) in
-    let f : take q (drop p d) ≡ b = rw (append-assoc, drop-at a (b ++ z) p ea) (take-at b z q eb) in
-    let r : drop p (drop q d) ≡ z = drop-drop p q d ∙ drop-at (a ++ b) z (q + p) l in
-    rw (f, zero-add) (paste-behind b (drop q d) s q p eb ∙ rw r)
+    let f : between p r d ≡ b = rw (take-at (a ++ b) z r er) (drop-at a b p ea) in
+    let h : drop p (drop q d) ≡ z = drop-drop p q d ∙ drop-at (a ++ b) z (q + p) l in
+    rw (f, eb) (paste-behind b (drop q d) s q p eb ∙ rw h)

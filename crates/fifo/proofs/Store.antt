@@ -1,0 +1,108 @@
+-- What callers need of a chip's store: the one that is packed from frames stays packed, and means those frames; and bounds of its count.
+-- Over a store of any room and any depth for which it has room.
+-- Assumes nothing.
+use Prim.Native.Nat.{ℕ, _+_, _≤_, min}
+use mathlib.Core.Path.{_≡_, refl, _∙_}
+use mathlib.Core.List.{List}
+use mathlib.Core.Bool.{Bool, true, false}
+use native.Mathlib.Omega.{arith}
+use lib.ListN.{length, take}
+use lib.Dec.{ltb}
+use borrow.Author.Tests.{ltb-true}
+use Rattle.laws.specs.Choice.{pick}
+use Rattle.laws.specs.Bits.{worth}
+use Rattle.laws.specs.Bytes.{zeros, padded, firstOrZeros}
+use Rattle.codes.specs.declared.Mode.{Mode}
+use Rattle.codes.specs.declared.Axes.{Axes}
+use Rattle.fifo.specs.declared.Drop.{Drop}
+use Rattle.fifo.specs.declared.Drop.the-variants.{Newcomer, Oldest}
+use Rattle.fifo.specs.declared.Setting.{Setting}
+use Rattle.fifo.specs.declared.Fifo.{Fifo}
+use Rattle.fifo.specs.Setting.{sizeOf, depthIn, dropsIn, settingOf}
+use Rattle.fifo.specs.Queue.{Queue, reached, empty, pushed, without}
+use Rattle.fifo.specs.Ledger.{Event}
+use Rattle.fifo.specs.Flat.{Flat, flat, packed, behind, flatFull, flatPushed, flatRead, numbersOf}
+use Rattle.fifo.specs.Store.{pushedIn, readIn, bytesIn, countIn, room, noFrames, emptied, statusAt}
+use Rattle.fifo.proofs.Bounds.{Deep, fitting-is, size-bounds, size-space, depth-most, depth-some}
+use Rattle.fifo.proofs.Meaning.{Framed, framed-empty, framed-without, framed-pushed, flat-pushed, flat-read, flat-bytes, flat-held, first-taken}
+use Rattle.fifo.proofs.Conserve.{Conserved, conserved}
+
+-- a queue that the FIFO of such a chip can hold: at most depth frames, each of the bytes of these axes
+pub record Fits (room depth : ℕ) (axes : Axes) (q : Queue (List ℕ)) : Type 0 where
+  pub deep : Deep room depth
+  pub framed : Framed room depth (sizeOf axes) q
+
+-- ---- no frame
+pub fits-empty : {room depth : ℕ} → Deep room depth → (axes : Axes) → Fits room depth axes empty
+fits-empty {room} {depth} h axes = record { deep = h; framed = framed-empty room depth (sizeOf axes) (size-space h axes) }
+
+pub empty-packed : packed room empty ≡ emptied
+unfolding noFrames packed padded
+empty-packed = refl
+
+module _ {room depth : ℕ} {axes : Axes} {q : Queue (List ℕ)} (w : Fits room depth axes q) where
+  -- ---- a frame comes
+  module _ (mode : Mode) where
+    pub fits-pushed : (a : List ℕ) → length a ≡ sizeOf axes → Fits room depth axes (pushed (settingOf depth mode axes) q a)
+    fits-pushed a l = record { deep = w .deep; framed = framed-pushed (settingOf depth mode axes) (w .framed) (depth-some (w .deep) mode) a (depth-most (w .deep) mode) l }
+
+    pub pushed-packed : (frame : List ℕ) → sizeOf axes ≤ length frame → pushedIn room depth mode axes frame (packed room q) ≡ packed room (pushed (settingOf depth mode axes) q (take (sizeOf axes) frame))
+    unfolding pushedIn
+    pushed-packed frame h = rw (fitting-is (w .deep)) (flat-pushed (settingOf depth mode axes) (w .framed) (depth-some (w .deep) mode) frame h)
+
+  -- ---- n bytes are read
+  module _ (n : ℕ) where
+    pub fits-read : Fits room depth axes (without (reached (sizeOf axes) n) q)
+    fits-read = record { deep = w .deep; framed = framed-without (reached (sizeOf axes) n) (w .framed) }
+
+    pub read-packed : readIn room depth axes n (packed room q) ≡ packed room (without (reached (sizeOf axes) n) q)
+    unfolding readIn
+    read-packed = rw (fitting-is (w .deep)) (flat-read (w .framed) n)
+
+    -- they are those of the frames held, and so of the frames that n bytes reach
+    pub bytes-packed : bytesIn room depth axes n (packed room q) ≡ firstOrZeros n (flat (q .frames))
+    unfolding bytesIn
+    bytes-packed = rw (fitting-is (w .deep)) (flat-bytes (w .framed) n)
+
+    pub bytes-taken : bytesIn room depth axes n (packed room q) ≡ firstOrZeros n (flat (take (reached (sizeOf axes) n) (q .frames)))
+    bytes-taken = bytes-packed ∙ first-taken (sizeOf axes) n (q .frames) (size-bounds axes .0) (w .framed .sized)
+
+  -- ---- the numbers
+  pub count-packed : countIn room depth (numbersOf (packed room q)) ≡ length (q .frames)
+  unfolding countIn
+  count-packed = rw (fitting-is (w .deep)) (flat-held (w .framed))
+
+pub status-packed : {depth : ℕ} {axes : Axes} {q : Queue (List ℕ)} → Fits room depth axes q → statusAt depth (numbersOf (packed room q)) ≡ worth 128 (q .overrun) + length (q .frames)
+unfolding packed
+status-packed w = rw (count-packed w)
+
+-- ---- a count that is not above the depth, of any store
+held-few : (most : ℕ) (s : Setting) (frame : List ℕ) (f : Flat) → f .count ≤ s .depth → flatPushed most s frame f .count ≤ s .depth
+unfolding flatPushed
+held-few most s frame f h = go (s .drops) (ltb n (s .depth)) refl
+  where
+    n : ℕ
+    n = min (f .count) most
+
+    go : (w : Drop) (t : Bool) → ltb n (s .depth) ≡ t
+        → pick t (record { bytes = behind (s .size) n frame (f .bytes); count = n + 1; overrun = f .overrun }) (flatFull w (s .size) n frame f) .count ≤ s .depth
+    go w true e = omega (arith, ltb-true)
+    go Newcomer false e = omega arith
+    go Oldest false e = omega arith
+
+pub read-few : (room depth : ℕ) (axes : Axes) (n : ℕ) (f : Flat) → readIn room depth axes n f .count ≤ f .count
+unfolding readIn flatRead
+read-few room depth axes n f = omega arith
+
+module _ {room depth : ℕ} (h : Deep room depth) (mode : Mode) where
+  pub pushed-few : (axes : Axes) (frame : List ℕ) (f : Flat) → f .count ≤ depthIn depth mode → pushedIn room depth mode axes frame f .count ≤ depthIn depth mode
+  unfolding pushedIn
+  pushed-few axes frame f few = rw (fitting-is h) (held-few depth (settingOf depth mode axes) frame f few)
+
+  pub count-few : (f : Fifo) → f .count ≤ depthIn depth mode → countIn room depth f ≡ f .count
+  unfolding countIn
+  count-few f few = rw (fitting-is h) (omega (arith, depth-most h mode))
+
+  -- ---- what became of each sample
+  pub conserved-in : {A : Type 0} (axes : Axes) (es : List (Event A)) → Conserved (settingOf depth mode axes) es
+  conserved-in axes es = conserved (settingOf depth mode axes) (depth-some h mode) es
