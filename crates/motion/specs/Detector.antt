@@ -22,13 +22,13 @@ quiet = record { runs = noRuns; alarm = off }
 abbrev pub pointsNeeded : Settings → ℕ
 pointsNeeded s = s .points % 4 + 1
 
--- "N over points in a row set it", with the axis that is marked and the sign
+-- an over point comes, where n in a row are asked for, with the mark of its axis and its sign: "N over points in a row set it"
 unfoldable pub afterOver : ℕ → ℕ → Bool → Motion → Motion
 afterOver n axis falling m =
     let r = overRun n (m .runs) in
     record { runs = r; alarm = pick (leb n (r .over)) (raised axis falling (m .alarm)) (m .alarm) }
 
--- "Non-latched, N calm points in a row clear it"
+-- a calm point comes: "Non-latched, N calm points in a row clear it"
 unfoldable pub afterCalm : ℕ → Bool → Motion → Motion
 afterCalm n unlatched m =
     let r = calmRun n (m .runs) in
