@@ -215,7 +215,14 @@ impl Fifo {
     }
 
     // An accepted sample's frame comes.
-    pub fn push(self, frames: &mut [u8; ROOM], depth: usize, mode: Mode, axes: Axes, frame: [u8; LONGEST_FRAME]) -> Self
+    pub fn push(
+        self,
+        frames: &mut [u8; ROOM],
+        depth: usize,
+        mode: Mode,
+        axes: Axes,
+        frame: [u8; LONGEST_FRAME],
+    ) -> Self
         ensures { λ r. ⌜ flatAt (now (frames .exit)) r ≡ pushedAt depth mode axes frame (flatAt (now (frames .entry)) self) ⌝ }
     {
         let most = depth_within(depth);
