@@ -8,7 +8,7 @@ use Rattle.laws.specs.Choice.{pick}
 use Rattle.codes.specs.Addresses.{axesAt, latchAt, pointsAt, thresholdAt}
 use Rattle.codes.specs.Latch.{latchOf, isUnlatched}
 use Rattle.alarm.specs.Alarm.{marksOf}
-use Rattle.slopes.specs.Slope.{noPrevious, remembered, forgotten, slopesTo}
+use Rattle.slopes.specs.Previous.{noPrevious, remembered, forgotten, slopesTo}
 use Rattle.motion.specs.Detector.{quiet, afterSample, restarted}
 use Rattle.motion.specs.declared.Settings.{Settings}
 use Rattle.registers.specs.declared.Deeds.{Deeds}
