@@ -1,5 +1,8 @@
 // All detectors together, with the previous sample that the slope detectors share: what a sample and a write do to them.
 ghost use mathlib.Core.Path.{_≡_};
+ghost use Rattle.laws.specs.Choice.{pick};
+ghost use Rattle.slopes.specs.Previous.{forgotten};
+ghost use Rattle.motion.specs.Detector.{restarted};
 ghost use Rattle.detectors.specs.Detectors as detectors;
 use codes::AXES_AT;
 use codes::LATCH_AT;
@@ -27,6 +30,26 @@ fn motion_settings(regs: &[u8; 64]) -> Settings
         points: regs[POINTS_AT],
         threshold: regs[THRESHOLD_AT],
         unlatched: is_unlatched(latch_of(regs[LATCH_AT])),
+    }
+}
+
+fn forgotten_when(forgets: bool, previous: Previous) -> Previous
+    ensures { λ r. ⌜ r ≡ pick forgets (forgotten previous) previous ⌝ }
+{
+    if forgets {
+        previous.forget()
+    } else {
+        previous
+    }
+}
+
+fn restarted_when(restarts: bool, motion: Motion) -> Motion
+    ensures { λ r. ⌜ r ≡ pick restarts (restarted motion) motion ⌝ }
+{
+    if restarts {
+        motion.restart()
+    } else {
+        motion
     }
 }
 
@@ -71,21 +94,17 @@ impl Detectors {
     }
 
     // A write was done.
-    pub fn after_write(mut self, deeds: Deeds) -> Self
+    pub fn after_write(self, deeds: Deeds) -> Self
         ensures { λ r. ⌜ r ≡ detectors.detectorsWritten deeds self ⌝ }
     {
+        if deeds.resets {
+            return Detectors::quiet();
+        }
         let previous = self.previous;
         let motion = self.motion;
-        if deeds.forgets {
-            self.previous = previous.forget();
+        Detectors {
+            previous: forgotten_when(deeds.forgets, previous),
+            motion: restarted_when(deeds.restarts, motion),
         }
-        if deeds.restarts {
-            self.motion = motion.restart();
-        }
-        if deeds.resets {
-            self.previous = Previous::none();
-            self.motion = Motion::quiet();
-        }
-        self
     }
 }

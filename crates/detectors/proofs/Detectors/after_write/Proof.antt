@@ -1,0 +1,16 @@
+use Rattle.detectors.specs.Detectors.{detectorsWritten}
+use Rattle.detectors.proofs.Detectors.after_write.Statement.{statement}
+use Rattle.detectors.proofs.Detectors.after_write.Tie as tie
+
+pub after-write-spec : {M : Type 1} → statement M
+unfolding detectorsWritten
+after-write-spec =
+    tie.close
+    (tie.spec
+    (λ c κs. tt)
+    (λ c. simp (c .before .if1 .taken, c .quiet .ensures))
+    (λ c κs. tt)
+    (λ c κs. tt)
+    (λ c.
+    let previous = c .before in
+    simp (previous .before .before .before .if1 .left, c .restarted-when .ensures, previous .forgotten-when .ensures)))
