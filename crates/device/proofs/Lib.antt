@@ -1,4 +1,2 @@
-pub mod Parts
 pub mod Burst
-pub mod Events
 pub mod Refused

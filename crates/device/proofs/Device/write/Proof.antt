@@ -1,46 +1,50 @@
--- The FIFO is emptied or not, then 0x08 and the data status are cleared or not; `write-is` puts the parts together.
-use mathlib.Core.Bool.{true, false}
-use mathlib.Core.Logic.{⊎-elim}
-use mathlib.Core.Path.{_≡_, refl, sym, ap, _∙_}
-use Rattle.registers.specs.Effects.{empties, resets}
-use Rattle.device.specs.declared.Device.{Device}
-use Rattle.device.proofs.Events.{Written, write-is}
+use borrow.Author.Needs.{needs}
 use Rattle.device.proofs.Device.write.Statement.{statement}
 use Rattle.device.proofs.Device.write.Tie as tie
+use Rattle.device.proofs.Device.write.Reads as reads
+use Rattle.device.proofs.Device.write.Lts as lts
+use Rattle.detectors.proofs.Detectors.after_write.Reads as after-write-reads
+use Rattle.device.proofs.writing.write_channels.Reads as write-channels-reads
+use Rattle.device.proofs.writing.write_registers.Reads as write-registers-reads
+use Rattle.fifo.proofs.Fifo.emptied_when.Reads as emptied-when-reads
+use Rattle.registers.proofs.judge_write.Reads as judge-write-reads
 
--- the device where the first branch's ways have met
-met : (c : tie.Joined1) → Written (c .before .before .before .before .before .before .before .before .before .before .args .self) (c .if1 .self) (c .before .before .before .before .before .before .before .before .before .before .args .address) (c .before .before .before .before .before .before .before .before .before .before .args .byte) (c .before .before .before .before .before .before .before .before .before .judge-write .result) (c .before .before .before .before .before .before .before .before .before .judge-write .ensures)
-met c =
-    let e = c .before .before .before .before .before .before .before .before .before .judge-write .result .effect in
-    ⊎-elim
-    (λ w. record {
-      regs = ap (λ (s : Device). s .regs) (w .2) ∙ c .before .before .before .before .before .before .write-registers .ensures;
-      channels = ap (λ (s : Device). s .channels) (w .2) ∙ c .before .before .before .before .channels-after .ensures;
-      temperature = ap (λ (s : Device). s .temperature) (w .2);
-      ready = ap (λ (s : Device). s .ready) (w .2);
-      fifo = ap (λ (s : Device). s .fifo) (w .2) ∙ simp (sym (c .before .empties .ensures) ∙ w .0 .taken) (w .1 .ensures);
-      motion = ap (λ (s : Device). s .motion) (w .2) ∙ c .before .before .motion-after .ensures;
-    })
-    (λ w. record {
-      regs = ap (λ (s : Device). s .regs) (w .1) ∙ c .before .before .before .before .before .before .write-registers .ensures;
-      channels = ap (λ (s : Device). s .channels) (w .1) ∙ c .before .before .before .before .channels-after .ensures;
-      temperature = ap (λ (s : Device). s .temperature) (w .1);
-      ready = ap (λ (s : Device). s .ready) (w .1);
-      fifo = ap (λ (s : Device). s .fifo) (w .1) ∙ simp (sym (c .before .empties .ensures) ∙ w .0 .left);
-      motion = ap (λ (s : Device). s .motion) (w .1) ∙ c .before .before .motion-after .ensures;
-    })
-    (c .if1 .came)
+-- src/lib.rt:90:13
+judge-write-requires : tie.Need-judge-write-requires
+judge-write-requires c κs = search needs
+
+-- src/lib.rt:93:9
+write-registers-requires : tie.Need-write-registers-requires
+write-registers-requires c κs = search needs
+
+-- src/lib.rt:96:25
+write-channels-requires : tie.Need-write-channels-requires
+write-channels-requires c κs = search needs
+
+-- src/lib.rt:98:26
+after-write-requires : tie.Need-after-write-requires
+after-write-requires c κs = search needs
+
+-- src/lib.rt:100:21
+emptied-when-requires : tie.Need-emptied-when-requires
+emptied-when-requires c κs = search needs
+
+-- src/lib.rt:86:5
+returns : tie.Need-returns
+returns c = ?
+
+-- src/lib.rt:86:5
+returns-2 : tie.Need-returns-2
+returns-2 c = ?
 
 pub write-spec : {M : Type 1} → statement M
 write-spec =
     tie.close
     (tie.spec
-    (λ c κs. tt)
-    (λ c κs. tt)
-    (λ c κs. tt)
-    (λ c κs. tt)
-    (λ c κs. tt)
-    (λ c κs. tt)
-    (λ c κs. tt)
-    (λ c. let e = sym (c .before .resets .ensures) ∙ c .if2 .taken in write-is _ _ _ _ _ _ (met (c .before .before)) 0 false (rw e refl) (rw e refl))
-    (λ c. let e = sym (c .before .resets .ensures) ∙ c .if2 .left in let m = met (c .before .before) in write-is _ _ _ _ _ _ m _ _ (rw e (m .temperature)) (rw e (m .ready))))
+    judge-write-requires
+    write-registers-requires
+    write-channels-requires
+    after-write-requires
+    emptied-when-requires
+    returns
+    returns-2)
