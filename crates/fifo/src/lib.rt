@@ -1,7 +1,7 @@
 // The FIFO of 01: frames in a flat store of bytes, the oldest first. The store is lent by its owner, and its numbers go by value. The
 // work is done on a store of any length, so that chips of other depths can share it; the accelerometer's is thin over it.
 ghost use mathlib.Core.Path.{_≡_};
-ghost use Prim.Native.Nat.{_+_, _*_, _≤_};
+ghost use Prim.Native.Nat.{_+_, _*_, _^_, _≤_, _<_};
 ghost use lib.ListN.{length, take};
 ghost use lib.Seq.{paste};
 ghost use Rattle.laws.specs.Choice.{pick};
@@ -102,7 +102,7 @@ fn depth_within(depth: usize) -> usize
 
 // How many frames a readout of n bytes reaches.
 fn frames_reached(n: usize, size: usize) -> usize
-    requires { ⌜ (1 ≤ size) × (n + size ≤ 0xFFFFFFFFFFFFFFFF) ⌝ }
+    requires { ⌜ (1 ≤ size) × (n + size < 2 ^ 64) ⌝ }
     ensures { λ r. ⌜ r ≡ reached size n ⌝ }
 {
     (n + (size - 1)) / size

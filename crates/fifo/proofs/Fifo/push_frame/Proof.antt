@@ -24,14 +24,17 @@ more b =
     let h : b .before .before .least .result + 1 ≤ a .most = omega arith in
     omega (arith, mul-le-mul-right (a .setting .size) h)
 
--- where the oldest is dropped, there is one
-some : (b : tie.After-enum-told2) → 1 ≤ b .before .before .before .before .least .result
-some b = omega (arith, b .before .before .before .before .before .before .before .pre .some (b .enum-told2 .given .1))
+-- where the oldest is dropped, what is held is known, and there is one
+abbrev before-drop : tie.After-enum-told2 → tie.After-least
+before-drop b = b .before .before .before .before
 
-last : (b : tie.After-enum-told2) → let a = b .before .before .before .before .before .before .before .args in (b .before .before .before .before .least .result - 1) * a .setting .size + a .setting .size ≤ length (now (a .s))
+some : (b : tie.After-enum-told2) → 1 ≤ before-drop b .least .result
+some b = omega (arith, before-drop b .before .before .before .pre .some (b .enum-told2 .given .1))
+
+last : (b : tie.After-enum-told2) → let a = before-drop b .before .before .before .args in (before-drop b .least .result - 1) * a .setting .size + a .setting .size ≤ length (now (a .s))
 last b =
-    let a = b .before .before .before .before .before .before .before .args in
-    let h : b .before .before .before .before .least .result - 1 + 1 ≤ a .most = omega (arith, some b) in
+    let a = before-drop b .before .before .before .args in
+    let h : before-drop b .least .result - 1 + 1 ≤ a .most = omega (arith, some b) in
     omega (arith, mul-le-mul-right (a .setting .size) h)
 
 pub push-frame-spec : {M : Type 1} → statement M
@@ -44,7 +47,9 @@ push-frame-spec =
     (λ c κs. omega (arith, more (c .before)))
     (λ c. search needs)
     (λ c. search needs)
-    (λ c. rw (← c .before .before .before .before .before .before .least .ensures, lt-ltb _ _ (c .before .before .before .before .if1 .taken), c .before .before .put .ensures))
+    (λ c.
+    let b = c .before .before .before .before in
+    rw (← b .before .before .least .ensures, lt-ltb _ _ (b .if1 .taken), c .before .before .put .ensures))
     (λ c. search needs)
     (λ c. search needs)
     (λ c. omega (arith, held (c .before .before .before .before .before)))
