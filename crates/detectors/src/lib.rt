@@ -36,21 +36,13 @@ fn motion_settings(regs: &[u8; 64]) -> Settings
 fn forgotten_when(forgets: bool, previous: Previous) -> Previous
     ensures { λ r. ⌜ r ≡ pick forgets (forgotten previous) previous ⌝ }
 {
-    if forgets {
-        previous.forget()
-    } else {
-        previous
-    }
+    if forgets { previous.forget() } else { previous }
 }
 
 fn restarted_when(restarts: bool, motion: Motion) -> Motion
     ensures { λ r. ⌜ r ≡ pick restarts (restarted motion) motion ⌝ }
 {
-    if restarts {
-        motion.restart()
-    } else {
-        motion
-    }
+    if restarts { motion.restart() } else { motion }
 }
 
 impl Detectors {

@@ -1,27 +1,15 @@
-use borrow.Author.Needs.{needs}
+use Rattle.device.specs.Show.{pinsOf}
 use Rattle.device.proofs.Device.pins.Statement.{statement}
 use Rattle.device.proofs.Device.pins.Tie as tie
-use Rattle.device.proofs.Device.pins.Reads as reads
-use Rattle.device.proofs.Device.pins.Lts as lts
-use Rattle.device.proofs.showing.statuses_in.Reads as statuses-in-reads
-use Rattle.interrupts.proofs.pin_level.Reads as pin-level-reads
-
--- src/lib.rt:192:13
-statuses-in-requires : tie.Need-statuses-in-requires
-statuses-in-requires c κs = search needs
-
--- src/lib.rt:194:19
-pin-level-requires : tie.Need-pin-level-requires
-pin-level-requires c κs = search needs
-
--- src/lib.rt:195:19
-pin-level-requires-2 : tie.Need-pin-level-requires-2
-pin-level-requires-2 c κs = search needs
-
--- src/lib.rt:180:5
-returns : tie.Need-returns
-returns c = ?
 
 pub pins-spec : {M : Type 1} → statement M
+unfolding pinsOf
 pins-spec =
-    tie.close (tie.spec statuses-in-requires pin-level-requires pin-level-requires-2 returns)
+    tie.close
+    (tie.spec
+    (λ c κs. tt)
+    (λ c κs. tt)
+    (λ c κs. tt)
+    (λ c.
+    let int1 = c .before .before in
+    simp (c .pin-level2 .ensures, int1 .pin-level .ensures, int1 .before .before .statuses-in .ensures)))

@@ -56,7 +56,7 @@ burst-spec =
     (λ c κs. tt)
     (λ c. omega arith)
     (λ c κs. tt)
-    (λ c. omega arith)
+    (λ c. let turn = c .before .before in omega (arith, turn .loop-test, turn .before .before .before .good))
     (λ c. omega arith)
     loop-again
     (λ c. c .before .loop .inv .1)

@@ -6,7 +6,7 @@ write-channels-spec =
     tie.close
     (tie.spec
     (λ c κs. tt)
-    (λ c. simp (c .before .if1 .taken, c .empty .ensures))
+    (λ c. rw (c .before .if1 .taken) (c .empty .ensures))
     (λ c κs. tt)
-    (λ c. simp (c .before .before .if1 .left, c .before .if2 .taken, c .release .ensures))
-    (λ c. simp (c .before .if1 .left, c .if2 .left)))
+    (λ c. rw (c .before .before .if1 .left, c .before .if2 .taken) (c .release .ensures))
+    (λ c. rw (c .before .if1 .left, c .if2 .left)))
