@@ -10,30 +10,37 @@ use lib.IntN.{ℤ}
 use lib.ListN.{length, take}
 use borrow.Author.Tests.{eqb-true, eq-eqb, ne-eqb}
 use Rattle.laws.specs.Bits.{bit, worth}
-use Rattle.laws.specs.Bytes.{given, zeros}
+use Rattle.laws.specs.Bytes.{firstOrZeros, zeros}
 use Rattle.laws.proofs.Bytes.{length-zeros}
-use Rattle.fifo.specs.Codes.{modeOf, axesOf, sizeOf, room}
-use Rattle.fifo.specs.Flat.{flat, packed, fifoOf}
+use Rattle.laws.proofs.Finite.{left, right}
+use Rattle.codes.specs.Addresses.{framesAt}
+use Rattle.codes.specs.Axes.{axesOf}
+use Rattle.codes.specs.Mode.{modeOf}
+use Rattle.fifo.specs.Flat.{flat, packed, numbersOf}
 use Rattle.fifo.specs.Ledger as ledger
 use Rattle.fifo.specs.Ledger.{marks, run, heldOf, lostOf, heldIn}
 use Rattle.fifo.specs.Queue.{Queue, reached}
+use Rattle.fifo.specs.Setting.{sizeOf}
+use Rattle.fifo.specs.Store.{room}
 use Rattle.fifo.specs.declared.Drop.the-variants.{Oldest}
 use Rattle.fifo.specs.declared.Setting.{Setting}
-use Rattle.fifo.proofs.Codes.{depth-most, depth-some, size-bounds}
+use Rattle.fifo.proofs.Bounds.{depth-most, depth-some}
 use Rattle.fifo.proofs.Conserve.{conserved, numbers, any-lost}
-use Rattle.fifo.proofs.Meaning.{bytes-packed, count-packed, given-taken}
+use Rattle.fifo.proofs.Store.{bytes-packed, bytes-taken, status-packed}
 use Rattle.registers.specs.Answers.{accepted}
+use Rattle.registers.specs.Deeds.{clears}
 use Rattle.registers.specs.Refused.{readAnswer}
-use Rattle.device.specs.Device.{depth}
-use Rattle.device.specs.Read.{readBytes, byteFrom, storedByte}
-use Rattle.device.specs.Read as device
+use Rattle.device.specs.Device.{depth, flatOf}
+use Rattle.device.specs.Read.{bufferAfter, singleBytes, afterSingles, byteFrom}
 use Rattle.device.specs.Sample.{sampleAnswer}
+use Rattle.device.specs.Show.{shownByte}
 use Rattle.device.specs.declared.Device.{Device}
-use Rattle.history.specs.History.{Event, powerUp, write, read, sample, cycle, clears, readsOut, control, setting, since, after, twin}
-use Rattle.history.specs.Demand.{fates, Readout, readouts, framesOf, bytesOf, gave, status, Demand3}
-use Rattle.history.proofs.Writes.{both-true}
+use Rattle.events.specs.Event.{Event, powerUp, write, read, sample, cycle}
+use Rattle.events.specs.Run.{after}
+use Rattle.history.specs.History.{readsOut, control, setting, since, twin}
+use Rattle.history.specs.Demand.{fates, Readout, readouts, framesOf, bytesOf, gave, dueStatus, Demand3}
 use Rattle.history.proofs.Lost.{lost-in}
-use Rattle.history.proofs.Told.{Holds, queueAt, told}
+use Rattle.history.proofs.Told.{Holds, queueAt, told, deep}
 
 -- ---- the frames that readouts take
 framesOf-snoc : (rs : List Readout) (r : Readout) → framesOf (rs ++ (r ∷ [])) ≡ framesOf rs ++ r .frames
@@ -60,42 +67,48 @@ low-seven false n h = omega arith
 -- ---- a device that holds a queue
 module _ {c : ℕ} {q : Queue (List ℕ)} {d : Device} (h : Holds c q d) where
   -- the byte of 0x0E
-  status-read : (b : ℕ) → readBytes d 0x0E (b ∷ []) ≡ (worth 128 (q .overrun) + length (q .frames)) ∷ []
-  unfolding readBytes readAnswer device.given device.after byteFrom storedByte packed
-  status-read b = rw (h .has .same, count-packed (h .fits))
+  status-read : (b : ℕ) → bufferAfter d 0x0E (b ∷ []) ≡ (worth 128 (q .overrun) + length (q .frames)) ∷ []
+  unfolding bufferAfter readAnswer singleBytes afterSingles byteFrom shownByte
+  status-read b =
+      let f : d .fifo ≡ numbersOf (packed room q) = ap numbersOf (h .same) in
+      rw f (ap (λ (byte : ℕ). byte ∷ []) (status-packed (h .fits)))
 
   -- the bytes of a readout
-  held-given : (n : ℕ) → readsOut 0x3F n ≡ true → readBytes d 0x3F (zeros n) ≡ given n (flat (q .frames))
-  unfolding readBytes readsOut
-  held-given n e =
-      let ok : accepted (readAnswer 0x3F n) ≡ true = both-true _ _ e .0 in
-      rw (length-zeros, ok, h .has .control, h .has .same) (bytes-packed (h .fits) n)
+  module _ (n : ℕ) (e : readsOut framesAt n ≡ true) where
+    abbrev ok : accepted (readAnswer framesAt n) ≡ true
+    unfolding readsOut
+    ok = left (accepted (readAnswer framesAt n)) _ e
 
-  -- they are those of the frames that it reaches
-  taken-given : (n : ℕ) → readsOut 0x3F n ≡ true → readBytes d 0x3F (zeros n) ≡ given n (flat (take (reached (sizeOf (axesOf c)) n) (q .frames)))
-  taken-given n e = held-given n e ∙ given-taken (sizeOf (axesOf c)) n (q .frames) (size-bounds (axesOf c) .0) (h .fits .sized)
+    held-given : bufferAfter d framesAt (zeros n) ≡ firstOrZeros n (flat (q .frames))
+    unfolding bufferAfter
+    held-given = rw (length-zeros, ok, h .regs .control, h .same) (bytes-packed (h .fits) n)
+
+    -- they are those of the frames that it reaches
+    taken-given : bufferAfter d framesAt (zeros n) ≡ firstOrZeros n (flat (take (reached (sizeOf (axesOf c)) n) (q .frames)))
+    unfolding bufferAfter
+    taken-given = rw (length-zeros, ok, h .regs .control, h .same) (bytes-taken (h .fits) n)
 
 -- ---- any events
 some : (es : List Event) → setting es .drops ≡ Oldest → 1 ≤ setting es .depth
-some es = depth-some depth (omega arith) (modeOf (control es))
+some es = depth-some deep (modeOf (control es))
 
 -- the frames that the device holds are those of the held samples, the oldest first
-pub device-holds : (es : List Event) → after es .fifo ≡ fifoOf (packed room (record { frames = heldOf (fates es); overrun = ltb 0 (length (lostOf (fates es))) }))
+pub device-holds : (es : List Event) → flatOf (after es) ≡ packed room (record { frames = heldOf (fates es); overrun = ltb 0 (length (lostOf (fates es))) })
 unfolding fates queueAt
 device-holds es =
     let g = conserved (setting es) (some es) (since es) in
-    told es .has .same ∙ (λ i. fifoOf (packed room (record { frames = g .frames i; overrun = (g .overrun ∙ any-lost (marks (setting es) (since es))) i })))
+    told es .same ∙ (λ i. packed room (record { frames = g .frames i; overrun = (g .overrun ∙ any-lost (marks (setting es) (since es))) i }))
 
 -- the bytes that the twin gives are in any lent buffer
-pub any-buffer : (es : List Event) (a : ℕ) (buffer : List ℕ) → accepted (readAnswer a (length buffer)) ≡ true → readBytes (after es) a buffer ≡ twin es a (length buffer)
-unfolding twin readBytes
+pub any-buffer : (es : List Event) (a : ℕ) (buffer : List ℕ) → accepted (readAnswer a (length buffer)) ≡ true → bufferAfter (after es) a buffer ≡ twin es a (length buffer)
+unfolding twin bufferAfter
 any-buffer es a buffer e = rw (length-zeros, e)
 
 -- the bytes of one readout
-out-given : (es : List Event) (a n : ℕ) → readsOut a n ≡ true → twin es a n ≡ given n (flat (take (reached (setting es .size) n) (heldOf (marks (setting es) (since es)))))
+out-given : (es : List Event) (a n : ℕ) → readsOut a n ≡ true → twin es a n ≡ firstOrZeros n (flat (take (reached (setting es .size) n) (heldOf (marks (setting es) (since es)))))
 unfolding twin queueAt readsOut
 out-given es a n e =
-    let s : a ≡ 0x3F = eqb-true a 0x3F (both-true (accepted (readAnswer a n)) _ e .1) in
+    let s : a ≡ framesAt = eqb-true a framesAt (right (accepted (readAnswer a n)) _ e) in
     rw s (taken-given (told es) n (rw s at e) ∙ rw (conserved (setting es) (some es) (since es) .frames))
 
 -- the bytes that the readouts gave
@@ -137,7 +150,7 @@ gives (sample x y z t ∷ es) = gives-sample es (gives es) x y z t
 gives (cycle ∷ es) = gives es
 
 pub demand3 : (es : List Event) → Demand3 twin es
-unfolding fates status queueAt twin Gives zeros
+unfolding fates dueStatus queueAt twin Gives zeros
 demand3 es =
     let s = setting es in
     let ms = marks s (since es) in
@@ -145,7 +158,7 @@ demand3 es =
     let g = conserved s (some es) (since es) in
     let held : heldIn ms ≡ length (heldOf ms) = sym (g .count) ∙ ap length (g .frames) in
     let few : length (heldOf ms) ≤ s .depth = omega (arith, g .few) in
-    let small : length (heldOf ms) < 128 = omega (arith, depth-most depth (omega arith) (modeOf (control es))) in
+    let small : length (heldOf ms) < 128 = omega (arith, depth-most deep (modeOf (control es))) in
     record {
       each = g .whole;
       numbers = ap length (sym (g .whole)) ∙ numbers ms ∙ rw held;

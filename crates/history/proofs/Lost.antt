@@ -11,13 +11,14 @@ use lib.Dec.{ltb}
 use lib.ListN.{getElem?}
 use borrow.Author.Tests.{ltb-true, ltb-false}
 use Rattle.laws.specs.Choice.{pick}
-use Rattle.fifo.specs.Codes.{sizeOf, settingOf, isReserved}
+use Rattle.codes.specs.Mode.{isReservedMode}
+use Rattle.codes.specs.declared.Axes.{Axes}
+use Rattle.codes.specs.declared.Mode.{Mode}
+use Rattle.codes.specs.declared.Mode.the-variants.{Bypass, Fifo, Stream, Reserved}
 use Rattle.fifo.specs.Ledger.{Event, sample, readout, Mark, taken, held, lost, heldIn, passed, takes, marks}
 use Rattle.fifo.specs.Queue.{reached}
-use Rattle.fifo.specs.declared.Axes.{Axes}
+use Rattle.fifo.specs.Setting.{sizeOf, settingOf}
 use Rattle.fifo.specs.declared.Drop.the-variants.{Newcomer, Oldest}
-use Rattle.fifo.specs.declared.Mode.{Mode}
-use Rattle.fifo.specs.declared.Mode.the-variants.{Bypass, Fifo, Stream, Reserved}
 use Rattle.fifo.specs.declared.Setting.{Setting}
 use Rattle.fifo.proofs.Conserve.{conserved}
 use Rattle.history.specs.Lost.{arrivals, fate, Saw, LostIn}
@@ -85,7 +86,7 @@ module _ {A : Type 0} (d size : ℕ) (earlier : List (Event A)) (a : A) where
 
   saw-more : (e : Event A) (later : List (Event A)) → Saw oldest earlier a (suc d) later → Saw oldest earlier a (suc d) (e ∷ later)
   saw-more e later w = record {
-    after = e ∷ w .after;
+    rest = e ∷ w .rest;
     last = w .last;
     between = w .between;
     split = ap (λ (l : List (Event A)). e ∷ l) (w .split);
@@ -97,23 +98,23 @@ module _ {A : Type 0} (d size : ℕ) (earlier : List (Event A)) (a : A) where
   saw [] h = let z : _≡_ {A = ℕ} 0 1 = cc in absurd (omega arith)
   saw (sample b ∷ later) h =
       ⊎-elim (λ p. saw-more (sample b) later (saw later p))
-      (λ p. record { after = []; last = b; between = later; split = refl; arrived = ap suc (p .0); unreached = p .1 })
+      (λ p. record { rest = []; last = b; between = later; split = refl; arrived = ap suc (p .0); unreached = p .1 })
       (passed-lost a d (arrivals later) (marks oldest (later ++ (sample a ∷ earlier))) h)
   saw (readout n ∷ later) h = saw-more (readout n) later (saw later (takes-lost a (reached size n) (arrivals later) (marks oldest (later ++ (sample a ∷ earlier))) .0 h))
 
-  still-lost : (after later : List (Event A)) → fate oldest earlier a later ≡ some (lost a) → fate oldest earlier a (after ++ later) ≡ some (lost a)
+  still-lost : (rest later : List (Event A)) → fate oldest earlier a later ≡ some (lost a) → fate oldest earlier a (rest ++ later) ≡ some (lost a)
   still-lost [] later h = h
-  still-lost (sample b ∷ after) later h = lost-stays a d (arrivals (after ++ later)) (marks oldest ((after ++ later) ++ (sample a ∷ earlier))) (still-lost after later h)
-  still-lost (readout n ∷ after) later h = takes-lost a (reached size n) (arrivals (after ++ later)) (marks oldest ((after ++ later) ++ (sample a ∷ earlier))) .1 (still-lost after later h)
+  still-lost (sample b ∷ rest) later h = lost-stays a d (arrivals (rest ++ later)) (marks oldest ((rest ++ later) ++ (sample a ∷ earlier))) (still-lost rest later h)
+  still-lost (readout n ∷ rest) later h = takes-lost a (reached size n) (arrivals (rest ++ later)) (marks oldest ((rest ++ later) ++ (sample a ∷ earlier))) .1 (still-lost rest later h)
 
   seen : (later : List (Event A)) → Saw oldest earlier a (suc d) later → fate oldest earlier a later ≡ some (lost a)
   seen later w =
       let e : arrivals (w .between) ≡ d = omega (arith, w .arrived) in
-      rw (w .split) (still-lost (w .after) (sample (w .last) ∷ w .between) (rw (← e) (held-lost a (arrivals (w .between)) (marks oldest (w .between ++ (sample a ∷ earlier))) (w .unreached))))
+      rw (w .split) (still-lost (w .rest) (sample (w .last) ∷ w .between) (rw (← e) (held-lost a (arrivals (w .between)) (marks oldest (w .between ++ (sample a ∷ earlier))) (w .unreached))))
 
 -- ---- in each mode, on a chip of any depth
 module _ (n : ℕ) (axes : Axes) {A : Type 0} (earlier : List (Event A)) (a : A) (later : List (Event A)) where
-  pub lost-in : (m : Mode) → isReserved m ≡ false → (fate (settingOf (suc n) m axes) earlier a later ≡ some (lost a)) ↔ LostIn (settingOf (suc n) m axes) earlier a (suc n) m later
+  pub lost-in : (m : Mode) → isReservedMode m ≡ false → (fate (settingOf (suc n) m axes) earlier a later ≡ some (lost a)) ↔ LostIn (settingOf (suc n) m axes) earlier a (suc n) m later
   lost-in Bypass r = (saw 0 (sizeOf axes) earlier a later, seen 0 (sizeOf axes) earlier a later)
   lost-in Fifo r = newcomer-lost (suc n) (sizeOf axes) earlier a later
   lost-in Stream r = (saw n (sizeOf axes) earlier a later, seen n (sizeOf axes) earlier a later)

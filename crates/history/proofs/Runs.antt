@@ -4,21 +4,25 @@ use Prim.Native.Nat.{ℕ, zero, suc}
 use mathlib.Core.List.{List, [], _∷_}
 use mathlib.Core.Path.{_≡_, refl}
 use lib.IntN.{pos}
-use Rattle.laws.specs.Bytes.{zeros, given}
-use Rattle.fifo.specs.Codes.{modeOf, axesOf}
-use Rattle.fifo.specs.Flat.{noFrames, flatPushed, flatRead, bytesRead}
+use Rattle.laws.specs.Bytes.{zeros, firstOrZeros, movedForward}
+use Rattle.codes.specs.Axes.{axesOf}
+use Rattle.codes.specs.Mode.{modeOf}
+use Rattle.fifo.specs.Flat.{flatPushed, flatRead, bytesRead}
 use Rattle.fifo.specs.Ledger.{lostOf}
+use Rattle.fifo.specs.Store.{noFrames, pushedIn, readIn, bytesIn, countIn}
 use Rattle.channels.specs.Codes.{code}
-use Rattle.registers.specs.Effects.{judged, effectAt}
+use Rattle.registers.specs.Deeds.{judgement, deedsOf, clears}
 use Rattle.registers.specs.Refused.{answerAt, readAnswer, reservedCode, notModelled}
-use Rattle.registers.specs.Table.{rowAt, rowOf, lineOf, listed, lacking, resetBytes}
+use Rattle.table.specs.Rows.{rowAt, rowOf, lineOf, listed, refusedBits, resetBytes}
 use Rattle.device.specs.Device.{powerUp, firstBytes}
-use Rattle.device.specs.Read as device
-use Rattle.device.specs.Read.{readOf, readBytes, byteFrom, storedByte}
+use Rattle.device.specs.Read.{readOf, bufferAfter, singleBytes, afterSingles, byteFrom}
 use Rattle.device.specs.Sample.{sampleAnswer, sampleOf, afterAccepted}
-use Rattle.device.specs.Write.{writeOf}
-use Rattle.history.specs.History.{Event, write, read, sample, clears, readsOut, control, frame, since, step, after, twin}
-use Rattle.history.specs.Demand.{fates, status, gave}
+use Rattle.device.specs.Show.{shownByte}
+use Rattle.device.specs.Write.{writeOf, written}
+use Rattle.events.specs.Event.{Event, write, read, sample}
+use Rattle.events.specs.Run.{after}
+use Rattle.history.specs.History.{readsOut, control, frame, since, twin}
+use Rattle.history.specs.Demand.{fates, dueStatus, gave}
 
 -- n samples after es, numbered by x from 0
 pub samples : ℕ → List Event → List Event
@@ -27,7 +31,7 @@ samples (suc n) es = sample (pos n) (pos 0) (pos 0) 0 ∷ samples n es
 
 -- what 0x0E shows, which frames are lost and what the readouts gave: by the history alone, and by the device
 pub record Ran (es : List Event) (byte : ℕ) (gone out : List (List ℕ)) : Type 0 where
-  pub told : status es ≡ byte
+  pub told : dueStatus es ≡ byte
   pub lost : lostOf (fates es) ≡ gone
   pub shown : twin es 0x0E 1 ≡ byte ∷ []
   pub came : gave twin es ≡ out
@@ -49,7 +53,7 @@ pub runs : Ran fifoRun 0x9F ((0x01 ∷ 0x02 ∷ 0x01 ∷ 0x00 ∷ 0x01 ∷ 0x00 
     × Ran bypassRun 0x81 ((0x01 ∷ 0x00 ∷ 0x01 ∷ 0x00 ∷ 0x01 ∷ 0x00 ∷ []) ∷ []) []
     × Ran (write 0x3E 0xC0 ∷ bypassRun) 0x81 ((0x01 ∷ 0x00 ∷ 0x01 ∷ 0x00 ∷ 0x01 ∷ 0x00 ∷ []) ∷ []) []
     × Ran (write 0x14 0xB6 ∷ bypassRun) 0x00 [] []
-unfolding samples status fates gave twin since control clears readsOut frame after step powerUp firstBytes resetBytes noFrames zeros writeOf judged effectAt sampleOf afterAccepted flatPushed readOf readBytes flatRead bytesRead given device.given device.after byteFrom storedByte code modeOf axesOf sampleAnswer readAnswer answerAt reservedCode notModelled rowAt rowOf lineOf listed lacking
+unfolding samples dueStatus fates gave twin since control clears readsOut frame after powerUp firstBytes resetBytes noFrames zeros writeOf written judgement deedsOf sampleOf afterAccepted pushedIn flatPushed movedForward readOf bufferAfter readIn flatRead bytesIn bytesRead firstOrZeros singleBytes afterSingles byteFrom shownByte countIn code modeOf axesOf sampleAnswer readAnswer answerAt reservedCode notModelled rowAt rowOf lineOf listed refusedBits
 runs = (
   record { told = refl; lost = refl; shown = refl; came = refl },
   record { told = refl; lost = refl; shown = refl; came = refl },

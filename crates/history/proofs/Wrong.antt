@@ -6,12 +6,13 @@ use mathlib.Core.List.{List, [], _∷_}
 use mathlib.Core.Path.{_≡_, refl, sym, _∙_}
 use native.Mathlib.Omega.{arith}
 use lib.IntN.{pos}
-use Rattle.fifo.specs.Codes.{modeOf, axesOf}
+use Rattle.codes.specs.Axes.{axesOf}
+use Rattle.codes.specs.Mode.{modeOf}
 use Rattle.device.specs.Sample.{sampleAnswer}
-use Rattle.registers.specs.Refused.{answerAt, reservedCode, notModelled}
-use Rattle.registers.specs.Table.{rowAt, rowOf, lineOf, listed, lacking}
-use Rattle.history.specs.History.{Event, write, sample, clears, readsOut, control, since, Twin, twin}
-use Rattle.history.specs.Demand.{fates, status, Demand3}
+use Rattle.registers.specs.Deeds.{clears}
+use Rattle.events.specs.Event.{Event, write, sample}
+use Rattle.history.specs.History.{readsOut, control, since, Twin, twin}
+use Rattle.history.specs.Demand.{fates, dueStatus, Demand3}
 use Rattle.history.proofs.Conserve.{demand3}
 
 -- two twins that meet it after the events show the same at 0x0E, and give the same at 0x3F
@@ -29,19 +30,19 @@ not-invented {es = es} p = same-status p (demand3 es)
 abbrev begun : List Event
 begun = write 0x3E 0x40 ∷ []
 
-abbrev onward : List Event
-onward = sample (pos 0) (pos 0) (pos 0) 0 ∷ begun
+abbrev second : List Event
+second = sample (pos 0) (pos 0) (pos 0) 0 ∷ begun
 
-bytes : (status begun ≡ 0x00) × (status onward ≡ 0x01)
-unfolding status fates since control clears modeOf axesOf sampleAnswer answerAt reservedCode notModelled rowAt rowOf lineOf listed lacking
+bytes : (dueStatus begun ≡ 0x00) × (dueStatus second ≡ 0x01)
+unfolding dueStatus fates since control clears modeOf axesOf sampleAnswer
 bytes = (refl, refl)
 
-apart : {t u : List ℕ} → t ≡ status begun ∷ [] → u ≡ status onward ∷ [] → t ≡ u → ⊥
+apart : {t u : List ℕ} → t ≡ dueStatus begun ∷ [] → u ≡ dueStatus second ∷ [] → t ≡ u → ⊥
 apart p q e = let z : _≡_ {A = ℕ} 0 1 = cc (bytes .0, bytes .1) in omega arith
 
 -- a byte that is always the same
 pub constant-fails : (t : Twin) (b : List ℕ) → ((es : List Event) → t es 0x0E 1 ≡ b) → ((es : List Event) → Demand3 t es) → ⊥
-constant-fails t b same meets = apart (meets begun .shown) (meets onward .shown) (same begun ∙ sym (same onward))
+constant-fails t b same meets = apart (meets begun .shown) (meets second .shown) (same begun ∙ sym (same second))
 
 -- "one that does its first event and pretends afterwards"
 abbrev pub firstOf : List Event → List Event
@@ -50,4 +51,4 @@ firstOf (e ∷ []) = e ∷ []
 firstOf (e ∷ f ∷ es) = firstOf (f ∷ es)
 
 pub pretender-fails : (t : Twin) → ((es : List Event) → Demand3 (λ es. t (firstOf es)) es) → ⊥
-pretender-fails t meets = apart (meets begun .shown) (meets onward .shown) refl
+pretender-fails t meets = apart (meets begun .shown) (meets second .shown) refl

@@ -10,16 +10,18 @@ use mathlib.Core.List.{List, [], _∷_, _++_, map}
 use lib.Dec.{ltb}
 use lib.ListN.{length, take, getElem?}
 use Rattle.laws.specs.Bits.{bit, worth}
-use Rattle.laws.specs.Bytes.{given}
+use Rattle.laws.specs.Bytes.{firstOrZeros}
 use Rattle.laws.specs.Choice.{pick}
-use Rattle.fifo.specs.Codes.{modeOf}
+use Rattle.codes.specs.Mode.{modeOf}
 use Rattle.fifo.specs.Flat.{flat}
 use Rattle.fifo.specs.Ledger as fifo
 use Rattle.fifo.specs.Ledger.{Mark, marks, allOf, takenOf, heldOf, lostOf}
 use Rattle.fifo.specs.Queue.{reached}
 use Rattle.fifo.specs.declared.Setting.{Setting}
+use Rattle.registers.specs.Deeds.{clears}
 use Rattle.device.specs.Device.{depth}
-use Rattle.history.specs.History.{Event, powerUp, write, read, sample, cycle, clears, readsOut, control, setting, since, Twin}
+use Rattle.events.specs.Event.{Event, powerUp, write, read, sample, cycle}
+use Rattle.history.specs.History.{readsOut, control, setting, since, Twin}
 use Rattle.history.specs.Lost.{arrivals, LostIn}
 
 -- what became of each sample accepted since the last clear, the latest first: a mark is one of taken, held and lost. The ledger's
@@ -46,7 +48,7 @@ framesOf (r ∷ rs) = r .frames ++ framesOf rs
 
 -- "Past the last frame it gives zeros"
 abbrev pub bytesOf : Readout → List ℕ
-bytesOf r = given (r .bytes) (flat (r .frames))
+bytesOf r = firstOrZeros (r .bytes) (flat (r .frames))
 
 -- the bytes that the readouts since the last clear gave, readout by readout
 unfoldable pub gave : Twin → List Event → List (List ℕ)
@@ -58,8 +60,8 @@ gave t (sample x y z temperature ∷ es) = gave t es
 gave t (cycle ∷ es) = gave t es
 
 -- "0x0E is overrun in bit 7, frame count in 6:0"
-unfoldable pub status : List Event → ℕ
-status es = worth 128 (ltb 0 (length (lostOf (fates es)))) + length (heldOf (fates es))
+unfoldable pub dueStatus : List Event → ℕ
+dueStatus es = worth 128 (ltb 0 (length (lostOf (fates es)))) + length (heldOf (fates es))
 
 -- ---- the demand
 pub record Demand3 (t : Twin) (es : List Event) : Type 0 where
@@ -73,10 +75,10 @@ pub record Demand3 (t : Twin) (es : List Event) : Type 0 where
   -- bytes that the twin gave are theirs; those of the held come next
   pub taken : framesOf (readouts (setting es) (since es)) ≡ takenOf (fates es)
   pub out : gave t es ≡ map bytesOf (readouts (setting es) (since es))
-  pub next : (n : ℕ) → readsOut 0x3F n ≡ true → t es 0x3F n ≡ given n (flat (heldOf (fates es)))
+  pub next : (n : ℕ) → readsOut 0x3F n ≡ true → t es 0x3F n ≡ firstOrZeros n (flat (heldOf (fates es)))
   -- "overrun is 1 exactly when some sample is lost; the count is the number held"
-  pub shown : t es 0x0E 1 ≡ status es ∷ []
-  pub overrun : bit 7 (status es) ≡ ltb 0 (length (lostOf (fates es)))
-  pub count : status es % 128 ≡ length (heldOf (fates es))
+  pub shown : t es 0x0E 1 ≡ dueStatus es ∷ []
+  pub overrun : bit 7 (dueStatus es) ≡ ltb 0 (length (lostOf (fates es)))
+  pub count : dueStatus es % 128 ≡ length (heldOf (fates es))
   -- "The held frames never exceed the depth"
   pub few : length (heldOf (fates es)) ≤ setting es .depth

@@ -5,9 +5,9 @@ use mathlib.Core.Path.{_≡_}
 use mathlib.Core.List.{List, [], _∷_, _++_}
 use mathlib.Core.Option.{Option, some}
 use lib.ListN.{getElem?}
+use Rattle.codes.specs.declared.Mode.{Mode}
+use Rattle.codes.specs.declared.Mode.the-variants.{Bypass, Fifo, Stream, Reserved}
 use Rattle.fifo.specs.Ledger.{Event, sample, readout, Mark, held, heldIn, marks}
-use Rattle.fifo.specs.declared.Mode.{Mode}
-use Rattle.fifo.specs.declared.Mode.the-variants.{Bypass, Fifo, Stream, Reserved}
 use Rattle.fifo.specs.declared.Setting.{Setting}
 
 -- how many samples were accepted
@@ -24,10 +24,10 @@ module _ {A : Type 0} (s : Setting) (earlier : List (Event A)) (a : A) where
 
   -- "it saw 32, or 1, later accepted samples arrive before a readout reached it": it was still held when the last of them came
   pub record Saw (many : ℕ) (later : List (Event A)) : Type 0 where
-    pub after : List (Event A)
+    pub rest : List (Event A)
     pub last : A
     pub between : List (Event A)
-    pub split : later ≡ after ++ (sample last ∷ between)
+    pub split : later ≡ rest ++ (sample last ∷ between)
     pub arrived : suc (arrivals between) ≡ many
     pub unreached : fate between ≡ some (held a)
 
