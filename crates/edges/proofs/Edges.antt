@@ -6,23 +6,33 @@ use mathlib.Core.List.{List, [], _∷_, _++_, map}
 use lib.IntN.{ℤ, pos, negsuc}
 use Rattle.laws.specs.Table.{upFrom}
 use Rattle.laws.specs.Bits.{bit}
-use Rattle.laws.specs.Bytes.{zeros, given}
-use Rattle.channels.specs.Codes.{code}
-use Rattle.channels.specs.Channels as channels
-use Rattle.fifo.specs.Codes.{modeOf, axesOf}
-use Rattle.fifo.specs.Flat.{flatPushed, flatRead, bytesRead, noFrames}
-use Rattle.motion.specs.Detector.{pointOf, afterOver, afterCalm, afterSample}
-use Rattle.motion.specs.Detector as motion
-use Rattle.registers.specs.Table.{listed, reserved, lineOf, lacking, rowOf, rowAt, resetBytes}
-use Rattle.registers.specs.Codes.{rangeOf, latchOfNibble}
+use Rattle.laws.specs.Bytes.{zeros, firstOrZeros, movedForward}
+use Rattle.codes.specs.Range.{rangeOf}
+use Rattle.codes.specs.Latch.{latchOf}
+use Rattle.codes.specs.Mode.{modeOf}
+use Rattle.codes.specs.Axes.{axesOf}
+use Rattle.table.specs.Rows.{listed, reservedAddresses, lineOf, refusedBits, rowOf, rowAt, resetBytes}
 use Rattle.registers.specs.Refused.{reservedCode, notModelled, answerAt, readAnswer}
-use Rattle.registers.specs.Effects.{effectAt, judged}
-use Rattle.device.specs.Device.{firstBytes, powerUp}
-use Rattle.device.specs.Status.{statusesAt}
-use Rattle.device.specs.Write.{writeOf}
-use Rattle.device.specs.Read as reads
-use Rattle.device.specs.Sample.{sampleAnswer, afterAccepted, sampleOf, cycleOf}
-use Rattle.edges.specs.Run.{Event, write, read, sample, Given, answer, bytes, told}
+use Rattle.registers.specs.Deeds.{deedsOf, judgement}
+use Rattle.fifo.specs.Flat.{flatPushed, flatRead, bytesRead}
+use Rattle.fifo.specs.Store.{pushedIn, readIn, bytesIn, countIn, noFrames}
+use Rattle.channels.specs.Codes.{code}
+use Rattle.channels.specs.Channels.{byteAt, afterRead}
+use Rattle.slopes.specs.Previous.{slopesTo}
+use Rattle.slopes.specs.Point.{firstOver, pointOf}
+use Rattle.slopes.specs.Runs.{overRun, calmRun}
+use Rattle.motion.specs.Detector.{afterOver, afterCalm, afterSample, restarted}
+use Rattle.detectors.specs.Detectors.{detectorsSampled, detectorsWritten}
+use Rattle.interrupts.specs.Statuses.{statusesOf}
+use Rattle.interrupts.specs.Lines.{statusByte}
+use Rattle.device.specs.Device as device
+use Rattle.device.specs.Device.{firstBytes}
+use Rattle.device.specs.Show.{shownByte}
+use Rattle.device.specs.Read.{byteFrom, afterSingles, singleBytes, readOf}
+use Rattle.device.specs.Write.{written, writeOf}
+use Rattle.device.specs.Sample.{sampleAnswer, afterAccepted, sampleOf}
+use Rattle.events.specs.Event.{Event, write, read, sample, Given, answer, bytes}
+use Rattle.events.specs.Run.{told}
 
 -- a step of a row: an event, and what it gives
 record Step : Type 0 where
@@ -72,6 +82,6 @@ rows =
     (write 0x21 0x01 ⇒ answer 3 ∷ write 0x21 0x07 ⇒ answer 0 ∷ []) ∷
     []
 
-edges : map (λ row. told powerUp (map (λ s. s .event) row)) rows ≡ map (λ row. map (λ s. s .given) row) rows
-unfolding bit zeros given code channels.byteAt channels.afterRead modeOf axesOf flatPushed flatRead bytesRead noFrames pointOf afterOver afterCalm afterSample motion.judged listed reserved lineOf lacking rowOf rowAt resetBytes rangeOf latchOfNibble reservedCode notModelled answerAt readAnswer effectAt judged firstBytes powerUp statusesAt writeOf reads.storedByte reads.byteFrom reads.after reads.given reads.readOf sampleAnswer afterAccepted sampleOf cycleOf
+edges : map (λ row. told device.powerUp (map (λ s. s .event) row)) rows ≡ map (λ row. map (λ s. s .given) row) rows
+unfolding bit zeros firstOrZeros movedForward rangeOf latchOf modeOf axesOf listed reservedAddresses lineOf refusedBits rowOf rowAt resetBytes reservedCode notModelled answerAt readAnswer deedsOf judgement flatPushed flatRead bytesRead pushedIn readIn bytesIn countIn noFrames code byteAt afterRead slopesTo firstOver pointOf overRun calmRun afterOver afterCalm afterSample restarted detectorsSampled detectorsWritten statusesOf statusByte device.powerUp firstBytes shownByte byteFrom afterSingles singleBytes readOf written writeOf sampleAnswer afterAccepted sampleOf
 edges = refl

@@ -1,1 +1,1 @@
-// No code of its own: what the device of 01 does over any run of events. The rules are in specs/, the theorems in proofs/.
+// No code of its own: the edges that 01 marks P, as rows of a single table under one theorem, in proofs/Edges.

@@ -48,3 +48,10 @@ pub record Given : Type 0 where
 
 abbrev pub gives : Device → Event → Given
 gives d e = record { number = number (happens d e .answer); bytes = bytesAt d e }
+
+-- a number and no bytes, and the bytes of an accepted read
+abbrev pub answer : ℕ → Given
+answer n = record { number = n; bytes = [] }
+
+abbrev pub bytes : List ℕ → Given
+bytes bs = record { number = 0; bytes = bs }

@@ -1,3 +1,4 @@
 pub mod Event
 pub mod Run
 pub mod Bank
+pub mod Parts

@@ -8,9 +8,9 @@ use lib.Dec.{eqb}
 use lib.Bits.{bitAnd, bitOr, bitXor, differ, and-step, or-step, xor-step, and-shr, or-shr, xor-shr}
 use Rattle.laws.specs.Choice.{pick, both, either}
 use Rattle.laws.specs.Bits.{bit}
-use Rattle.registers.specs.Table.{merged}
-use Rattle.registers.specs.declared.table.Row.{Row}
-use Rattle.edges.proofs.Finite.{alike}
+use Rattle.laws.proofs.Finite.{alike}
+use Rattle.table.specs.Rows.{merged}
+use Rattle.table.specs.declared.Row.{Row}
 
 -- what holds of 0 and 1 holds of two numbers' last digits
 digits : (P : ℕ → ℕ → Type 0) → P 0 0 → P 0 1 → P 1 0 → P 1 1 → (x y : ℕ) → P (x % 2) (y % 2)

@@ -1,0 +1,349 @@
+-- Demand 2: after any events from power-up on, each address below 0x3F reads what its rule in 01 says, and so do the pins.
+-- Assumes nothing.
+use Prim.Native.Nat.{ℕ, _+_, _/_, _%_, _^_, _<_, _≤_}
+use mathlib.Core.Bool.{Bool, true, false, not}
+use mathlib.Core.Path.{_≡_, refl, sym, ap, _∙_}
+use mathlib.Core.List.{List, [], _∷_}
+use native.Mathlib.Omega.{arith}
+use native.Mathlib.Nat.{add-zero}
+use lib.Dec.{eqb, ltb}
+use lib.ListN.{getD}
+use borrow.Author.Tests.{eqb-true, ltb-true, le-ltb, lt-ltb, eq-eqb, ne-eqb}
+use Rattle.laws.specs.Choice.{pick, both, either}
+use Rattle.laws.specs.Lists.{isIn}
+use Rattle.laws.specs.Bits.{bit, worth}
+use Rattle.laws.proofs.Finite.{alike, left, right, all, each}
+use Rattle.codes.specs.Addresses.{rangeAt, latchAt, controlAt, resetAt, enablesAt, levelAt}
+use Rattle.codes.specs.Range.{rangeOf, isReservedRange}
+use Rattle.codes.specs.Latch.{latchOf, isModelled}
+use Rattle.codes.specs.Mode.{modeOf, isReservedMode}
+use Rattle.table.specs.Rows.{listed, reservedAddresses, lineOf, refusedBits, rowOf, rowAt, resetBytes, merged, writable}
+use Rattle.channels.specs.Channels.{byteAt}
+use Rattle.fifo.specs.Setting.{depthIn}
+use Rattle.fifo.specs.Store.{room, countAt, statusAt}
+use Rattle.fifo.proofs.Bounds.{Deep, depth-most}
+use Rattle.fifo.proofs.Store.{count-few}
+use Rattle.alarm.specs.Alarm.{Marked, marksOf}
+use Rattle.alarm.proofs.Laws.{marked-small, marks-whole}
+use Rattle.alarm.proofs.Laws as alarm
+use Rattle.interrupts.specs.Statuses.{statusesOf}
+use Rattle.interrupts.specs.declared.Statuses.{Statuses}
+use Rattle.detectors.specs.Detectors.{motionMarks, detectorsWritten}
+use Rattle.interrupts.specs.Lines.{statusByte, isActive}
+use Rattle.interrupts.specs.Pins.{pinLevel}
+use Rattle.registers.specs.Answers.{number, accepted}
+use Rattle.registers.specs.Deeds.{softResetByte, isReset, judgement, deedsOf}
+use Rattle.registers.specs.Refused.{readAnswer, writeAnswer, answerAt, reservedCode, notModelled}
+use Rattle.registers.specs.declared.Answer.the-variants.{Done}
+use Rattle.device.specs.Device.{chipNumber, firstBytes, powerUp, depth, reg}
+use Rattle.device.specs.Show.{insideOf, sourcesOf, statusesIn, shownByte, pinsOf}
+use Rattle.device.specs.Read.{readOf, byteFrom, singleByte, singleBytes, afterSingles, isData}
+use Rattle.device.specs.Write.{writeOf, written, regsReset}
+use Rattle.device.specs.declared.Device.{Device}
+use Rattle.device.specs.declared.showing.Inside.{Inside}
+use Rattle.events.specs.Event.{Event, write, read, answer, bytes, gives}
+use Rattle.events.specs.Run.{next, after, told}
+use Rattle.events.specs.Bank.{bank, stored}
+use Rattle.events.proofs.Runs.{bank-is, bank-length}
+use Rattle.rules.specs.Past.{Past, past}
+use Rattle.rules.specs.Rules.{dataWith, sourcesAfter, statusesAfter, alarmAfter, ruled, isTabled, pinsFrom}
+use Rattle.rules.specs.Proper.{isStored, spared, Proper}
+use Rattle.rules.proofs.Bits.{bit-merged, bit-clear}
+use Rattle.rules.proofs.Codes.{accepted-clear, first-clear, range-stored, mode-stored, latch-stored}
+use Rattle.rules.proofs.Writes.{byteWritten, byte-written, reset-byte}
+use Rattle.rules.proofs.Proper.{proper}
+use Rattle.rules.proofs.Past.{past-is}
+
+-- ---- the stored bytes, from the events alone
+pub registers : (es : List Event) (a : ℕ) → reg (after es) a ≡ stored es a
+registers es a = ap (λ (regs : List ℕ). getD regs a 0) (bank-is es)
+
+-- ---- a read of one byte
+pub single : (d : Device) (a : ℕ) → a < 0x3F → gives d (read a 1) ≡ bytes (singleByte d a ∷ [])
+unfolding readOf readAnswer singleBytes afterSingles
+single d a h =
+    let p : ltb 0x3F a ≡ false = le-ltb 0x3F a (omega arith) in
+    let q : ltb 0x3F (a + 1) ≡ false = le-ltb 0x3F (a + 1) (omega arith) in
+    let r : ltb a 0x3F ≡ true = lt-ltb a 0x3F h in
+    let s : eqb a 0x3F ≡ false = ne-eqb a 0x3F (omega arith) in
+    rw (p, q, r, s) (rw add-zero)
+
+-- ---- the rule of each address
+deep : Deep room depth
+deep = record { some = omega arith; space = omega arith }
+
+few-held : (es : List Event) → countAt depth (after es .fifo) ≡ after es .fifo .count
+few-held es = count-few deep (modeOf (reg (after es) controlAt)) (after es .fifo) (proper es .few)
+
+marked-mark : (es : List Event) → alarmAfter es .mark < 8
+marked-mark es = marked-small (alarmAfter es) (proper es .marked)
+
+data-are : (es : List Event) (a : ℕ) → byteAt (after es .channels) a ≡ dataWith (after es .channels) (past es .codes) a
+unfolding byteAt dataWith
+data-are es a = ap (λ (p : Past). dataWith (after es .channels) (p .codes) a) (past-is es)
+
+statuses-are : (es : List Event) → statusesIn (after es .regs) (insideOf (after es)) ≡ statusesAfter es
+unfolding statusesAfter
+statuses-are es = rw (few-held es, ap (λ (p : Past). p .came) (past-is es), bank-is es)
+
+byte-ruled : (es : List Event) (a : ℕ) → a < 64 → singleByte (after es) a ≡ ruled es a
+unfolding byteFrom shownByte ruled
+byte-ruled es a h =
+    rw (data-are es a, statuses-are es, few-held es, marks-whole (alarmAfter es) (marked-mark es), lt-ltb a 64 h, bank-is es, ap (λ (p : Past). p .temperature) (past-is es))
+
+pub reads : (es : List Event) (a : ℕ) → a < 0x3F → gives (after es) (read a 1) ≡ bytes (ruled es a ∷ [])
+reads es a h = single (after es) a h ∙ rw (byte-ruled es a (omega arith))
+
+-- ---- "Register table"
+tabled-byte : (d : Device) (a : ℕ) → a < 64 → isTabled a ≡ true → singleByte d a ≡ reg d a
+unfolding byteFrom shownByte
+tabled-byte d a h t = rw (lt-ltb a 64 h) (go (isData a) (eqb a 0x08) (eqb a 0x09) (eqb a 0x0A) (eqb a 0x0B) (eqb a 0x0E) t)
+  where
+    s : Inside
+    s = insideOf d
+
+    go : (p q r u v w : Bool) → not (either p (either q (either r (either u (either v (either w false)))))) ≡ true
+        → pick p (byteAt (d .channels) a) (pick q (s .temperature) (pick r (statusByte 0x09 (statusesIn (d .regs) s)) (pick u (statusByte 0x0A (statusesIn (d .regs) s)) (pick v (motionMarks (s .detectors)) (pick w (statusAt depth (s .fifo)) (reg d a)))))) ≡ reg d a
+    go true q r u v w e = cc
+    go false true r u v w e = cc
+    go false false true u v w e = cc
+    go false false false true v w e = cc
+    go false false false false true w e = cc
+    go false false false false false true e = cc
+    go false false false false false false e = refl
+
+-- of these addresses the byte is that of the last write that was stored, since reset, or the reset byte
+pub reads-tabled : (es : List Event) (a : ℕ) → a < 0x3F → isTabled a ≡ true → gives (after es) (read a 1) ≡ bytes (stored es a ∷ [])
+reads-tabled es a h t = single (after es) a h ∙ rw (tabled-byte (after es) a (omega arith) t, bank-is es)
+
+-- the addresses of l read v, whatever happens
+abbrev constant : ℕ → ℕ → Bool
+constant v a = both (ltb a 0x3F) (both (isTabled a) (both (not (writable a)) (eqb (reg powerUp a) v)))
+
+reads-constant : (v : ℕ) (l : List ℕ) → all (constant v) l ≡ true → (es : List Event) (a : ℕ) → isIn l a ≡ true → gives (after es) (read a 1) ≡ bytes (v ∷ [])
+reads-constant v l c es a m = go (ltb a 0x3F) refl (isTabled a) refl (writable a) refl (each (constant v) l c a m)
+  where
+    go : (h : Bool) → ltb a 0x3F ≡ h → (t : Bool) → isTabled a ≡ t → (w : Bool) → writable a ≡ w → both h (both t (both (not w) (eqb (reg powerUp a) v))) ≡ true → gives (after es) (read a 1) ≡ bytes (v ∷ [])
+    go true eh true et false ew e =
+        let h = ltb-true a 0x3F eh in
+        reads-tabled es a h et ∙ rw (← bank-is es, proper es .fixed a (omega arith) ew, eqb-true (reg powerUp a) v e)
+    go true eh true et true ew e = cc
+    go true eh false et w ew e = cc
+    go false eh t et w ew e = cc
+
+-- three registers that can be written
+settable : (a : ℕ) → isIn (rangeAt ∷ latchAt ∷ controlAt ∷ []) a ≡ true → writable a ≡ true
+unfolding rowAt rowOf lineOf listed refusedBits reservedAddresses
+settable = each writable (rangeAt ∷ latchAt ∷ controlAt ∷ []) refl
+
+module _ (es : List Event) where
+  -- "00 (0xFA)"
+  pub reads-chip : gives (after es) (read 0x00 1) ≡ bytes (chipNumber ∷ [])
+  unfolding powerUp firstBytes resetBytes rowAt rowOf lineOf listed refusedBits reservedAddresses
+  reads-chip = reads-constant chipNumber (0x00 ∷ []) refl es 0x00 refl
+
+  -- "Reserved addresses 01, 0D, 15, 1C, 1D, 1F, 31, 35, 3D read 0xFF"
+  pub reads-reserved : (a : ℕ) → isIn reservedAddresses a ≡ true → gives (after es) (read a 1) ≡ bytes (0xFF ∷ [])
+  unfolding powerUp firstBytes resetBytes rowAt rowOf lineOf listed refusedBits reservedAddresses
+  reads-reserved = reads-constant 0xFF reservedAddresses refl es
+
+  -- "02 to 0C .. (0)", of which 0C has no rule of its own; "Address 14 reads 0"
+  pub reads-nothing : (a : ℕ) → isIn (0x0C ∷ 0x14 ∷ []) a ≡ true → gives (after es) (read a 1) ≡ bytes (0 ∷ [])
+  unfolding powerUp firstBytes resetBytes rowAt rowOf lineOf listed refusedBits reservedAddresses
+  reads-nothing = reads-constant 0 (0x0C ∷ 0x14 ∷ []) refl es
+
+  -- "33:F4/00", "36:10/00"
+  pub reads-33 : gives (after es) (read 0x33 1) ≡ bytes (0xF4 ∷ [])
+  unfolding powerUp firstBytes resetBytes rowAt rowOf lineOf listed refusedBits reservedAddresses
+  reads-33 = reads-constant 0xF4 (0x33 ∷ []) refl es 0x33 refl
+
+  pub reads-36 : gives (after es) (read 0x36 1) ≡ bytes (0x10 ∷ [])
+  unfolding powerUp firstBytes resetBytes rowAt rowOf lineOf listed refusedBits reservedAddresses
+  reads-36 = reads-constant 0x10 (0x36 ∷ []) refl es 0x36 refl
+
+  -- "A sample sets .. 0x08"
+  pub reads-temperature : gives (after es) (read 0x08 1) ≡ bytes (past es .temperature ∷ [])
+  unfolding ruled
+  reads-temperature = reads es 0x08 (omega arith)
+
+  -- "any-motion (0x09 bit 2)"
+  pub reads-motion : gives (after es) (read 0x09 1) ≡ bytes (worth 4 (alarmAfter es .status) ∷ [])
+  unfolding ruled statusByte statusesAfter statusesOf
+  reads-motion = reads es 0x09 (omega arith) ∙ rw add-zero
+
+  pub reads-interrupts : gives (after es) (read 0x0A 1) ≡ bytes (statusByte 0x0A (statusesAfter es) ∷ [])
+  unfolding ruled
+  reads-interrupts = reads es 0x0A (omega arith)
+
+  -- the mark is 1, 2 or 4 while the status is set, and 0 else
+  pub reads-marks : (gives (after es) (read 0x0B 1) ≡ bytes ((alarmAfter es .mark + worth 8 (alarmAfter es .negative)) ∷ [])) × Marked (alarmAfter es)
+  unfolding ruled
+  reads-marks = (reads es 0x0B (omega arith), proper es .marked)
+
+  -- "The held frames never exceed the depth"
+  pub reads-frames : (gives (after es) (read 0x0E 1) ≡ bytes ((worth 128 (after es .fifo .overrun) + after es .fifo .count) ∷ [])) × (after es .fifo .count ≤ depthIn depth (modeOf (stored es controlAt)))
+  unfolding ruled
+  reads-frames = (reads es 0x0E (omega arith), rw (bank-is es) at (proper es .few))
+
+  -- "overrun in bit 7, frame count in 6:0"
+  pub frames-apart : (bit 7 (ruled es 0x0E) ≡ after es .fifo .overrun) × (ruled es 0x0E % 128 ≡ after es .fifo .count)
+  unfolding ruled bit
+  frames-apart = go (after es .fifo .overrun) (after es .fifo .count) (omega (arith, proper es .few, depth-most deep (modeOf (reg (after es) controlAt))))
+    where
+      go : (o : Bool) (c : ℕ) → c < 128 → (eqb ((worth 128 o + c) / 2 ^ 7 % 2) 1 ≡ o) × ((worth 128 o + c) % 128 ≡ c)
+      go true c h = (eq-eqb ((128 + c) / 2 ^ 7 % 2) 1 (omega arith), omega arith)
+      go false c h = (ne-eqb ((0 + c) / 2 ^ 7 % 2) 1 (omega arith), omega arith)
+
+  -- "0x0B bits 2:0 (z, y, x) mark the first over axis .., and bit 3 is 1 for a negative difference"
+  pub marks-apart : (bit 3 (ruled es 0x0B) ≡ alarmAfter es .negative) × (ruled es 0x0B % 8 ≡ alarmAfter es .mark) × (ruled es 0x0B < 16)
+  unfolding ruled
+  marks-apart = rw (← marks-whole (alarmAfter es) (marked-mark es)) (alarm.marks-apart (alarmAfter es) (marked-mark es))
+
+  -- ---- the settings
+  module _ (a : ℕ) (low : a < 64) where
+    -- "A write changes masked bits only; other bits keep their reset value"
+    pub kept : (k : ℕ) → k < 8 → bit k (rowAt a .1) ≡ false → bit k (stored es a) ≡ bit k (reg powerUp a)
+    unfolding after
+    kept k h m = rw (← bank-is es) (go (writable a) refl)
+      where
+        go : (w : Bool) → writable a ≡ w → bit k (reg (after es) a) ≡ bit k (reg powerUp a)
+        go true e =
+            let v = proper es .written a low e in
+            let f = proper [] .written a low e in
+            rw (v .is, f .is, bit-merged (rowAt a) (v .byte) k h, bit-merged (rowAt a) (f .byte) k h, m)
+        go false e = rw (proper es .fixed a low e)
+
+    -- "Refused 3: a 1 in ..": no such bit is ever stored
+    pub unset : (k : ℕ) → k < 8 → bit k (rowAt a .2) ≡ true → bit k (stored es a) ≡ false
+    unset k h m = rw (← bank-is es) (go (writable a) refl (bit k (rowAt a .1)) refl)
+      where
+        at-first : bit k (reg powerUp a) ≡ false
+        at-first = bit-clear k h _ _ (first-clear a low) m
+
+        go : (w : Bool) → writable a ≡ w → (t : Bool) → bit k (rowAt a .1) ≡ t → bit k (reg (after es) a) ≡ false
+        go false e t f = rw (proper es .fixed a low e) at-first
+        go true e false f = rw (bank-is es) (kept k h f ∙ at-first)
+        go true e true f =
+            let v = proper es .written a low e in
+            rw (v .is, bit-merged (rowAt a) (v .byte) k h, f) (bit-clear k h _ _ (accepted-clear (v .regs) a (v .byte) (v .ok)) m)
+
+  -- "every other low nibble is refused 2"
+  pub range-known : isReservedRange (rangeOf (stored es rangeAt)) ≡ false
+  range-known = let v = proper es .written rangeAt (omega arith) (settable rangeAt refl) in rw (← bank-is es, v .is) (range-stored (v .regs) (v .byte) (v .ok))
+
+  -- "11 is refused 2"
+  pub mode-known : isReservedMode (modeOf (stored es controlAt)) ≡ false
+  mode-known = let v = proper es .written controlAt (omega arith) (settable controlAt refl) in rw (← bank-is es, v .is) (mode-stored (v .regs) (v .byte) (v .ok))
+
+  -- "others are refused 3"
+  pub latch-known : isModelled (latchOf (stored es latchAt)) ≡ true
+  latch-known = let v = proper es .written latchAt (omega arith) (settable latchAt refl) in rw (← bank-is es, v .is) (latch-stored (v .regs) (v .byte) (v .ok))
+
+-- ---- the pins
+-- each status stands in its bit
+statuses-apart : (s : Statuses) → (bit 2 (statusByte 0x09 s) ≡ s .motion) × (bit 7 (statusByte 0x0A s) ≡ s .ready) × (bit 6 (statusByte 0x0A s) ≡ s .watermark) × (bit 5 (statusByte 0x0A s) ≡ s .full)
+unfolding bit statusByte
+statuses-apart s = let t = three (s .ready) (s .watermark) (s .full) in (alone (s .motion), t .0, t .1, t .2)
+  where
+    alone : (m : Bool) → bit 2 (worth 4 m + 0) ≡ m
+    alone true = refl
+    alone false = refl
+
+    three : (p q r : Bool) → (bit 7 (worth 128 p + (worth 64 q + (worth 32 r + 0))) ≡ p) × (bit 6 (worth 128 p + (worth 64 q + (worth 32 r + 0))) ≡ q) × (bit 5 (worth 128 p + (worth 64 q + (worth 32 r + 0))) ≡ r)
+    three true true true = (refl, refl, refl)
+    three true true false = (refl, refl, refl)
+    three true false true = (refl, refl, refl)
+    three true false false = (refl, refl, refl)
+    three false true true = (refl, refl, refl)
+    three false true false = (refl, refl, refl)
+    three false false true = (refl, refl, refl)
+    three false false false = (refl, refl, refl)
+
+-- both levels are those that the bytes read say
+pub pins : (es : List Event) → pinsOf (after es) ≡ pinsFrom (ruled es)
+unfolding pinsOf pinLevel isActive ruled
+pins es =
+    let b = statuses-apart (statusesAfter es) in
+    rw (statuses-are es, bank-is es, b .0, b .1, b .2, b .3)
+
+-- ---- one write more
+-- an address that can be written is of the table, and not 0x14
+writable-away : (a : ℕ) → a < 64 → writable a ≡ true → (isTabled a ≡ true) × (eqb a resetAt ≡ false)
+unfolding rowAt rowOf lineOf listed refusedBits reservedAddresses
+writable-away a h w =
+    let t = alike (λ i. pick (writable i) (isTabled i) true) (λ i. true) 64 refl a h in
+    let n = alike (λ i. pick (writable i) (eqb i resetAt) false) (λ i. false) 64 refl a h in
+    (rw w at t, rw w at n)
+
+module _ (es : List Event) (a byte : ℕ) where
+  -- the byte of an address of the table after it
+  read-next : (c : ℕ) → c < 0x3F → isTabled c ≡ true → gives (after (write a byte ∷ es)) (read c 1) ≡ bytes (byteWritten (bank es) c a byte ∷ [])
+  unfolding bank
+  read-next c h t = reads-tabled (write a byte ∷ es) c h t ∙ rw (byte-written (bank es) (bank-length es) c a byte)
+
+  pub answered : gives (after es) (write a byte) ≡ answer (number (writeAnswer (bank es) a byte))
+  unfolding writeOf judgement
+  answered = rw (bank-is es)
+
+  -- a write that is answered 0 reads back under its mask
+  pub write-reads : a < 0x3F → writable a ≡ true → writeAnswer (bank es) a byte ≡ Done → told (after es) (write a byte ∷ read a 1 ∷ []) ≡ answer 0 ∷ bytes (merged (rowAt a) byte ∷ []) ∷ []
+  unfolding after
+  write-reads h w e =
+      let ok : accepted (writeAnswer (bank es) a byte) ≡ true = ap accepted e in
+      let own : eqb a a ≡ true = eq-eqb a a refl in
+      let away = writable-away a (omega arith) w in
+      let back : gives (next (after es) (write a byte)) (read a 1) ≡ bytes (merged (rowAt a) byte ∷ []) = read-next a h (away .0) ∙ rw (away .1, ok, w, own) in
+      rw (answered, back, e)
+
+  -- a write changes no other register's byte, soft reset excepted
+  pub write-others : (c : ℕ) → c < 0x3F → isTabled c ≡ true → (c ≡ a → ⊥) → isReset a byte ≡ false → gives (after (write a byte ∷ es)) (read c 1) ≡ gives (after es) (read c 1)
+  write-others c h t n r = read-next c h t ∙ rw (r, ne-eqb c a n) (go (isStored (bank es) a byte)) ∙ sym (reads-tabled es c h t)
+    where
+      go : (s : Bool) → bytes (pick (both s false) (merged (rowAt a) byte) (stored es c) ∷ []) ≡ bytes (stored es c ∷ [])
+      go true = refl
+      go false = refl
+
+-- a device with other registers
+abbrev withRegs : Device → List ℕ → Device
+withRegs d regs = record {
+  regs = regs;
+  channels = d .channels;
+  temperature = d .temperature;
+  came = d .came;
+  frames = d .frames;
+  fifo = d .fifo;
+  detectors = d .detectors;
+}
+
+-- "14: 0xB6 is a soft reset: everything as at power-up, 0x3B and 0x3C excepted"
+abbrev softReset : Event
+softReset = write resetAt softResetByte
+
+reset-is : (d : Device) → next d softReset ≡ withRegs powerUp (regsReset (d .regs))
+unfolding writeOf written judgement deedsOf detectorsWritten answerAt rowAt rowOf lineOf listed refusedBits reservedAddresses reservedCode notModelled powerUp
+reset-is d = refl
+
+reset-shown : (regs : List ℕ) (c : ℕ) → isIn spared c ≡ false → singleByte (withRegs powerUp (regsReset regs)) c ≡ singleByte powerUp c
+unfolding byteFrom shownByte statusesOf powerUp
+reset-shown regs c n = rw (reset-byte regs enablesAt, reset-byte regs levelAt, reset-byte regs controlAt, reset-byte regs c, n)
+
+module _ (es : List Event) where
+  reset-answered : gives (after es) softReset ≡ answer 0
+  unfolding answerAt rowAt rowOf lineOf listed refusedBits reservedAddresses reservedCode notModelled
+  reset-answered = answered es resetAt softResetByte
+
+  pub reset-reads : (c : ℕ) → c < 0x3F → isIn spared c ≡ false → told (after es) (softReset ∷ read c 1 ∷ []) ≡ answer 0 ∷ gives powerUp (read c 1) ∷ []
+  reset-reads c h n =
+      let d = after es in
+      let back : gives (next d softReset) (read c 1) ≡ gives powerUp (read c 1) =
+      rw (reset-is d, single (withRegs powerUp (regsReset (d .regs))) c h, single powerUp c h, reset-shown (d .regs) c n) in
+      rw (reset-answered, back)
+
+  pub reset-keeps : (c : ℕ) → isIn spared c ≡ true → told (after es) (softReset ∷ read c 1 ∷ []) ≡ answer 0 ∷ gives (after es) (read c 1) ∷ []
+  unfolding after
+  reset-keeps c n =
+      let e = each (λ a. both (ltb a 0x3F) (isTabled a)) spared refl c n in
+      let h = ltb-true c 0x3F (left (ltb c 0x3F) (isTabled c) e) in
+      let t = right (ltb c 0x3F) (isTabled c) e in
+      let back : gives (next (after es) softReset) (read c 1) ≡ gives (after es) (read c 1) = read-next es resetAt softResetByte c h t ∙ rw n (sym (reads-tabled es c h t)) in
+      rw (reset-answered, back)
