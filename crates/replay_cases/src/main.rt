@@ -1,4 +1,4 @@
-// Replays each log of data/, whose files are named 00, 01, .., and prints what the log's writer answers at the edges of its room.
+// Replays each log of data/, whose files are named 000, 001, .., and prints what the log's writer answers at the edges of its room.
 use benchlog::CycleEntry;
 use benchlog::Entry;
 use benchlog::WriteEntry;
@@ -7,9 +7,14 @@ use benchlog::write_entry;
 use benchlog::write_version;
 use libc::STDOUT_FILENO;
 
+// The last decimal digit of a number.
+fn digit(n: u16) -> u8 {
+    48 + (n % 10) as u8
+}
+
 // Replays one log, below a line with its name.
-fn case(n: u8) -> bool {
-    let name = [48 + n / 10 % 10, 48 + n % 10];
+fn case(n: u16) -> bool {
+    let name = [digit(n / 100), digit(n / 10), digit(n)];
     let fd = os::open_read(&name);
     if fd < 0 {
         return false;
@@ -74,8 +79,8 @@ fn records() {
 fn main() {
     versions();
     records();
-    let mut n: u8 = 0;
-    while n < 100 {
+    let mut n: u16 = 0;
+    while n < 1000 {
         if !case(n) {
             return;
         }

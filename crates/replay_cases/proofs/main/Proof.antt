@@ -7,7 +7,7 @@ abbrev Inv-loop : tie.InvT-loop
 Inv-loop n₀ n = Unit {0}
 
 abbrev μ-loop : tie.MeasureT-loop
-μ-loop n₀ n = 100 - n
+μ-loop n₀ n = 1000 - n
 
 pub main-spec : {M : Type 1} → statement M
 main-spec =
