@@ -1,7 +1,8 @@
 # For scripts that time the twin against the C twin of peer/. Both run in turn, many short runs of each, so that they meet the same
 # machine; processor time counts, the best run of each is taken, and what a start costs (the kit's loader and, on another kind of
-# machine, its emulator) is subtracted. Needs $room, a folder.
-least=9 most=40
+# machine, its emulator) is subtracted. Other work on the machine slows the two sides unlike: where there is any, a script says so.
+# Needs $room, a folder.
+least=15 most=40
 gcc -std=c11 -O2 -Wall -Wextra -o "$room/once" bench/once.c
 
 # both commands in turn on an input, so many times: a line for each run in $room/ours and $room/peers
@@ -18,7 +19,7 @@ best() { sort -n "$1" | awk 'NR == 1 { print $1 }'; }
 # the second best of some runs, as so many thousandths above the best
 spread_of() { sort -n "$1" | awk 'NR == 1 { best = $1 } NR == 2 { print int(1000 * ($1 - best) / (best + 1)) }'; }
 
-# Sets ours and peers, the microseconds of the best of at least nine runs, and of more where the two best of a side are not yet within
+# Sets ours and peers, the microseconds of the best of at least fifteen runs, and of more where the two best of a side are not yet within
 # 5 %; runs, how many there were; spread, how far the two best are apart, in per cent, on the side where it is more; and ours_memory
 # and peers_memory in KB.
 time_both() { # INPUT OURS PEERS START_INPUT OURS_START PEERS_START: the last three do nothing but start
@@ -36,6 +37,9 @@ time_both() { # INPUT OURS PEERS START_INPUT OURS_START PEERS_START: the last th
     spread=$({ spread_of "$room/ours"; spread_of "$room/peers"; } | sort -n | awk 'END { printf "%.1f", $1 / 10 }')
     ours_memory=$(sort -n "$room/ours" | awk 'NR == 1 { print $2 }') peers_memory=$(sort -n "$room/peers" | awk 'NR == 1 { print $2 }')
 }
+
+# a line that says how busy the machine is, where it does more than this script; to be printed at the end
+other_work() { awk '$1 > 1.2 { print "the load was " $1 ": other work ran, and the figures are less sure" }' /proc/loadavg; }
 
 # the microseconds of one run
 time_of() { # INPUT COMMAND

@@ -1,7 +1,7 @@
-/* The accelerometer twin for C: link libbench.a, which `examples/bench/build` makes (x86-64).
+/* The accelerometer twin for C: link libtwin.a, which `examples/firmware/build` makes (x86-64).
  *
  * The record is the harness's own. What the caller owes: a pointer to a whole record that is zeroed or was left by one of these
- * functions, and a buffer of the length passed with it, outside the record. The functions in libbench.a cannot tell a null or short buffer;
+ * functions, and a buffer of the length passed with it, outside the record. The functions in libtwin.a cannot tell a null or short buffer;
  * twin_write, twin_read, twin_sample and twin_cycle below refuse what C can see. */
 #ifndef TWIN_H
 #define TWIN_H

@@ -1,4 +1,4 @@
-/* The C entry's answers, and that it writes nothing outside the record and the buffer. tests/bench builds and runs it. */
+/* The C entry's answers, and that it writes nothing outside the record and the buffer. tests/entry builds and runs it. */
 #define _DEFAULT_SOURCE
 #include <stdio.h>
 #include <string.h>

@@ -16,9 +16,9 @@ use Rattle.device.specs.declared.pins.Level.the-variants.{Low, High, Released}
 use Rattle.benchlog.specs.Answers as log
 use Rattle.benchlog.specs.Format.{writeKind, readKind, sampleKind, cycleKind}
 use Rattle.benchlog.specs.declared.Found.the-variants.{WrongRecord}
-use Rattle.bench.specs.declared.Kind.{Kind}
-use Rattle.bench.specs.declared.Kind.the-variants.{Write, Read, Sample, CycleStart, Unknown}
-use Rattle.bench.specs.declared.Stepped.{Stepped}
+use Rattle.twin.specs.declared.Kind.{Kind}
+use Rattle.twin.specs.declared.Kind.the-variants.{Write, Read, Sample, CycleStart, Unknown}
+use Rattle.twin.specs.declared.Stepped.{Stepped}
 
 -- an event's answer by its number
 abbrev pub numberedOf : Answered → Stepped

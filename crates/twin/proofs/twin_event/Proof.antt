@@ -1,4 +1,4 @@
--- `bench::twin_event` meets its contract: a walk of its MIR, by hand. The first borrow is opened, and the record behind it is copied into a local
+-- `twin::twin_event` meets its contract: a walk of its MIR, by hand. The first borrow is opened, and the record behind it is copied into a local
 -- and passed to `step`, of which only the contract is known; the second is given to `step` for good. The device of what `step` returns is stored
 -- behind the first borrow, which is closed there.
 -- Assumes nothing.
@@ -49,18 +49,18 @@ use denote.Exit.{yes}
 use Rattle.device.specs.declared.Device.{Device}
 use Rattle.device.proofs.Device as T
 use Rattle.device.proofs.Device.Laws as T′
-use Rattle.bench.specs.Bench.{stepOf, stepBytes}
-use Rattle.bench.specs.declared.Stepped.{Stepped}
-use Rattle.bench.proofs.Stepped as S
-use Rattle.bench.proofs.Stepped.Laws as S′
-use Rattle.bench.proofs.step as g
-use Rattle.bench.proofs.step.Symbol as g-def
-use Rattle.bench.proofs.step.Symbol.{name as #step}
-use Rattle.bench.proofs.step.Met as g-thm
-use Rattle.bench.proofs.twin_event.Key.{name as #twin-event}
-use Rattle.bench.proofs.twin_event as f
-use Rattle.bench.proofs.twin_event.Statement as stated
-use Rattle.bench.proofs.twin_event.Code as code
+use Rattle.twin.specs.Entry.{stepOf, stepBytes}
+use Rattle.twin.specs.declared.Stepped.{Stepped}
+use Rattle.twin.proofs.Stepped as S
+use Rattle.twin.proofs.Stepped.Laws as S′
+use Rattle.twin.proofs.step as g
+use Rattle.twin.proofs.step.Symbol as g-def
+use Rattle.twin.proofs.step.Symbol.{name as #step}
+use Rattle.twin.proofs.step.Met as g-thm
+use Rattle.twin.proofs.twin_event.Key.{name as #twin-event}
+use Rattle.twin.proofs.twin_event as f
+use Rattle.twin.proofs.twin_event.Statement as stated
+use Rattle.twin.proofs.twin_event.Code as code
 
 abbrev Arg : Type 0
 Arg = RefT Device × (ℕ × (ℕ × (ℕ × (ℤ × (ℤ × (ℤ × (RefT (List ℕ) × Unit {0})))))))
@@ -243,4 +243,4 @@ twin-event-spec 𝓤 H 𝓜 𝓖 𝓡 =
     entered 𝓤 H (tripleOf 𝓤 H (𝓖 .A) f.signature (f.spec 𝓤 H (𝓖 .A) (𝓜 .mem) (𝓡 .run)))
     (tables 𝓤 H 𝓜 𝓡 code.env .C) (tables 𝓤 H 𝓜 𝓡 code.env .Λ) #twin-event code.function (code.unfolded 𝓤 H 𝓜 𝓡)
     (twin-event-meets 𝓤 H (𝓖 .A) (givenOf 𝓤 H 𝓜 𝓖) (𝓜 .mem) (𝓡 .run) (tablesOf 𝓤 H 𝓜 (tables 𝓤 H 𝓜 𝓡 code.env))
-    (cited 𝓤 H (Step 𝓤 H (𝓖 .A) (𝓜 .mem) (𝓡 .run)) 𝓜 𝓡 code.env #step g-def.routine code.calls-bench·step (g-thm.met 𝓤 H 𝓜 𝓖 𝓡)))
+    (cited 𝓤 H (Step 𝓤 H (𝓖 .A) (𝓜 .mem) (𝓡 .run)) 𝓜 𝓡 code.env #step g-def.routine code.calls-twin·step (g-thm.met 𝓤 H 𝓜 𝓖 𝓡)))

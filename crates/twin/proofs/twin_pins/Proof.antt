@@ -1,4 +1,4 @@
--- `bench::twin_pins` meets its contract: a walk of its MIR, by hand. The borrow is looked into, the record behind it is copied into a local, and the
+-- `twin::twin_pins` meets its contract: a walk of its MIR, by hand. The borrow is looked into, the record behind it is copied into a local, and the
 -- borrow is shut again; the copy is passed to `pins_code`, of which only the contract is known.
 -- Assumes nothing.
 use mathlib.Core.Path.{_≡_, refl}
@@ -39,15 +39,15 @@ use denote.Exit.{yes}
 use Rattle.device.specs.declared.Device.{Device}
 use Rattle.device.proofs.Device as T
 use Rattle.device.proofs.Device.Laws as T′
-use Rattle.bench.specs.Bench.{pinsCode}
-use Rattle.bench.proofs.pins_code as g
-use Rattle.bench.proofs.pins_code.Symbol as g-def
-use Rattle.bench.proofs.pins_code.Symbol.{name as #pins-code}
-use Rattle.bench.proofs.pins_code.Met as g-thm
-use Rattle.bench.proofs.twin_pins.Key.{name as #twin-pins}
-use Rattle.bench.proofs.twin_pins as f
-use Rattle.bench.proofs.twin_pins.Statement as stated
-use Rattle.bench.proofs.twin_pins.Code as code
+use Rattle.twin.specs.Entry.{pinsCode}
+use Rattle.twin.proofs.pins_code as g
+use Rattle.twin.proofs.pins_code.Symbol as g-def
+use Rattle.twin.proofs.pins_code.Symbol.{name as #pins-code}
+use Rattle.twin.proofs.pins_code.Met as g-thm
+use Rattle.twin.proofs.twin_pins.Key.{name as #twin-pins}
+use Rattle.twin.proofs.twin_pins as f
+use Rattle.twin.proofs.twin_pins.Statement as stated
+use Rattle.twin.proofs.twin_pins.Code as code
 
 abbrev stayed : Stays (f.ended .signature .params) (f.ended .kept)
 stayed = (stay-none-ref (0 ∷ []) tt (plain (λ _. T.the-row)) yes, tt)
@@ -129,4 +129,4 @@ twin-pins-spec 𝓤 H 𝓜 𝓖 𝓡 =
     entered 𝓤 H (tripleOf 𝓤 H (𝓖 .A) f.signature (f.spec 𝓤 H (𝓖 .A) (𝓜 .mem) (𝓡 .run)))
     (tables 𝓤 H 𝓜 𝓡 code.env .C) (tables 𝓤 H 𝓜 𝓡 code.env .Λ) #twin-pins code.function (code.unfolded 𝓤 H 𝓜 𝓡)
     (twin-pins-meets 𝓤 H (𝓖 .A) (givenOf 𝓤 H 𝓜 𝓖) (𝓜 .mem) (𝓡 .run) (tablesOf 𝓤 H 𝓜 (tables 𝓤 H 𝓜 𝓡 code.env))
-    (cited 𝓤 H (Asked 𝓤 H (𝓖 .A) (𝓜 .mem) (𝓡 .run)) 𝓜 𝓡 code.env #pins-code g-def.routine code.calls-bench·pins-code (g-thm.met 𝓤 H 𝓜 𝓖 𝓡)))
+    (cited 𝓤 H (Asked 𝓤 H (𝓖 .A) (𝓜 .mem) (𝓡 .run)) 𝓜 𝓡 code.env #pins-code g-def.routine code.calls-twin·pins-code (g-thm.met 𝓤 H 𝓜 𝓖 𝓡)))

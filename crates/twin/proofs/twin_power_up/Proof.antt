@@ -1,4 +1,4 @@
--- `bench::twin_power_up` meets its contract: a walk of its MIR, by hand. The borrow is opened, what `power_up` returns is stored behind it, of
+-- `twin::twin_power_up` meets its contract: a walk of its MIR, by hand. The borrow is opened, what `power_up` returns is stored behind it, of
 -- which only the contract is known, and the borrow is closed there.
 -- Assumes nothing.
 use mathlib.Core.Path.{_≡_, refl}
@@ -43,10 +43,10 @@ use Rattle.device.proofs.Device.power_up as g
 use Rattle.device.proofs.Device.power_up.Symbol as g-def
 use Rattle.device.proofs.Device.power_up.Symbol.{name as #power-up}
 use Rattle.device.proofs.Device.power_up.Met as g-thm
-use Rattle.bench.proofs.twin_power_up.Key.{name as #twin-power-up}
-use Rattle.bench.proofs.twin_power_up as f
-use Rattle.bench.proofs.twin_power_up.Statement as stated
-use Rattle.bench.proofs.twin_power_up.Code as code
+use Rattle.twin.proofs.twin_power_up.Key.{name as #twin-power-up}
+use Rattle.twin.proofs.twin_power_up as f
+use Rattle.twin.proofs.twin_power_up.Statement as stated
+use Rattle.twin.proofs.twin_power_up.Code as code
 
 abbrev stayed : Stays (f.ended .signature .params) (f.ended .kept)
 stayed = (stay-ref (0 ∷ []) tt (plain (λ _. T.the-row)), tt)

@@ -1,7 +1,7 @@
 use borrow.Author.Tests.{ne-eqb}
-use Rattle.bench.specs.Bench.{kindOf}
-use Rattle.bench.proofs.kind_of.Statement.{statement}
-use Rattle.bench.proofs.kind_of.Tie as tie
+use Rattle.twin.specs.Entry.{kindOf}
+use Rattle.twin.proofs.kind_of.Statement.{statement}
+use Rattle.twin.proofs.kind_of.Tie as tie
 
 pub kind-of-spec : {M : Type 1} → statement M
 unfolding kindOf

@@ -4,9 +4,9 @@ use mathlib.Core.Path.{_≡_}
 use native.Mathlib.Omega.{arith}
 use Rattle.device.specs.declared.pins.Level.{Level}
 use Rattle.device.specs.declared.pins.Level.the-variants.{Low, High, Released}
-use Rattle.bench.specs.Bench.{levelCode, pinsCode}
-use Rattle.bench.proofs.pins_code.Statement.{statement}
-use Rattle.bench.proofs.pins_code.Tie as tie
+use Rattle.twin.specs.Entry.{levelCode, pinsCode}
+use Rattle.twin.proofs.pins_code.Statement.{statement}
+use Rattle.twin.proofs.pins_code.Tie as tie
 
 low : (l : Level) → levelCode l ≤ 2
 low Low = omega arith

@@ -4,7 +4,7 @@ ghost use lib.ListN.{length};
 ghost use prog.Memory.{size, align};
 ghost use Rattle.device.proofs.Device.Laws.{mir as deviceType};
 ghost use Rattle.device.specs.Device.{powerUp};
-ghost use Rattle.bench.specs.Bench.{kindOf, numberedOf, stepOf, stepBytes, pinsCode, levelCode};
+ghost use Rattle.twin.specs.Entry.{kindOf, numberedOf, stepOf, stepBytes, pinsCode, levelCode};
 use benchlog::CYCLE;
 use benchlog::Found;
 use benchlog::READ;

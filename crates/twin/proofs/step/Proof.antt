@@ -1,9 +1,9 @@
 use mathlib.Core.Path.{sym, _∙_}
 use mir.Facts.{toZ-ofZ}
 use borrow.Author.Needs.{needs}
-use Rattle.bench.specs.Bench.{stepOf, stepBytes}
-use Rattle.bench.proofs.step.Statement.{statement}
-use Rattle.bench.proofs.step.Tie as tie
+use Rattle.twin.specs.Entry.{stepOf, stepBytes}
+use Rattle.twin.proofs.step.Statement.{statement}
+use Rattle.twin.proofs.step.Tie as tie
 
 write-returns : tie.Need-returns
 unfolding stepOf stepBytes
