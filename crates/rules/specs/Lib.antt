@@ -1,3 +1,5 @@
+pub mod Paper
+pub mod Stored
 pub mod Past
 pub mod Rules
 pub mod Proper
