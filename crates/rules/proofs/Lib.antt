@@ -4,5 +4,6 @@ pub mod Codes
 pub mod Writes
 pub mod Proper
 pub mod Stored
+pub mod Bursts
 pub mod Past
 pub mod Registers
