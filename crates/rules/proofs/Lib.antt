@@ -1,6 +1,9 @@
 pub mod Bits
+pub mod Paper
 pub mod Codes
 pub mod Writes
 pub mod Proper
+pub mod Stored
+pub mod Bursts
 pub mod Past
 pub mod Registers

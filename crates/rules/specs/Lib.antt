@@ -1,3 +1,6 @@
+pub mod Paper
+pub mod Stored
+pub mod Bursts
 pub mod Past
 pub mod Rules
 pub mod Proper

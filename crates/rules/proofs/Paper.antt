@@ -1,0 +1,117 @@
+-- 01's register table, as its text has it, is the one that the contracts cite: row by row, byte by byte, by computation.
+-- Assumes nothing.
+use Prim.Native.Nat.{ℕ, _<_}
+use mathlib.Core.Bool.{Bool, true, false, not}
+use mathlib.Core.Path.{_≡_, refl, sym, ap, _∙_}
+use mathlib.Core.List.{List, [], _∷_}
+use native.Mathlib.Omega.{arith}
+use lib.Bits.{bitAnd, bitOr, bitXor, and-le-r, and-le-l, or-lt}
+use lib.Dec.{eqb, ltb, leb}
+use lib.ListN.{length, getD}
+use borrow.Author.Tests.{eqb-true, not-false, ltb-true, ltb-false, le-leb, lt-leb}
+use Rattle.laws.specs.Choice.{pick, both, either}
+use Rattle.laws.specs.Bits.{bit}
+use Rattle.laws.specs.Table.{upFrom}
+use Rattle.laws.proofs.Table.{entry}
+use Rattle.laws.proofs.Finite.{alike}
+use Rattle.codes.specs.Range.{rangeOf}
+use Rattle.codes.specs.Latch.{latchOf}
+use Rattle.codes.specs.Mode.{modeOf}
+use Rattle.codes.specs.Addresses.{framesAt}
+use Rattle.table.specs.Rows.{rowAt, rowOf, lineOf, listed, refusedBits, reservedAddresses, resetBytes, merged, writable}
+use Rattle.registers.specs.Answers.{accepted}
+use Rattle.registers.specs.Refused.{writeAnswer, answerAt, reservedCode, notModelled}
+use Rattle.registers.specs.declared.Answer.the-variants.{Done, NoAddress, ReservedCode, NotModelled}
+use Rattle.device.specs.Device.{firstBytes}
+use Rattle.rules.specs.Paper.{tableRows, rowsOf, resetOf, maskOf, byteOf, masked, isRefused2, isRefused3, accepts}
+use Rattle.rules.proofs.Bits.{bit-merged}
+
+-- ---- the rows
+-- "The table has 64 rows": one of each address, and no more
+pub one-each : length tableRows ≡ 64
+unfolding tableRows
+one-each = refl
+
+pub one-row : (a : ℕ) → a < 64 → rowsOf a ≡ 1
+unfolding tableRows
+one-row = alike rowsOf (λ a. 1) 64 refl
+
+pub reset-is : (a : ℕ) → a < 64 → getD firstBytes a 0 ≡ resetOf a
+unfolding tableRows resetOf firstBytes resetBytes rowOf lineOf listed reservedAddresses
+reset-is = alike (λ a. getD firstBytes a 0) resetOf 64 refl
+
+pub mask-is : (a : ℕ) → a < 64 → rowAt a .1 ≡ maskOf a
+unfolding tableRows maskOf rowAt rowOf lineOf listed reservedAddresses
+mask-is = alike (λ a. rowAt a .1) maskOf 64 refl
+
+-- ---- the byte that is stored
+byte-bits : (n : ℕ) → n < 256 → n ≡ byteOf (λ k. bit k n)
+unfolding bit
+byte-bits = alike (λ n. n) (λ n. byteOf (λ k. bit k n)) 256 refl
+
+-- what the row of an address that can be written has, as 01 has it
+row-reset : (a : ℕ) → a < 64 → writable a ≡ true → rowAt a .0 ≡ resetOf a
+unfolding tableRows resetOf rowAt rowOf lineOf listed refusedBits reservedAddresses
+row-reset a h w =
+    let e = alike (λ i. pick (writable i) (rowAt i .0) 0) (λ i. pick (writable i) (resetOf i) 0) 64 refl a h in
+    rw w at e
+
+reset-small : (a : ℕ) → a < 64 → resetOf a < 256
+unfolding tableRows resetOf
+reset-small a h = ltb-true (resetOf a) 256 (alike (λ i. ltb (resetOf i) 256) (λ i. true) 64 refl a h)
+
+mask-small : (a : ℕ) → a < 64 → maskOf a < 256
+unfolding tableRows maskOf
+mask-small a h = ltb-true (maskOf a) 256 (alike (λ i. ltb (maskOf i) 256) (λ i. true) 64 refl a h)
+
+pub masked-is : (a byte : ℕ) → a < 64 → writable a ≡ true → merged (rowAt a) byte ≡ masked a byte
+unfolding masked
+masked-is a byte h w =
+    let r = rowAt a in
+    let m : r .1 < 256 = rw (mask-is a h) (mask-small a h) in
+    let s : r .0 < 256 = rw (row-reset a h w) (reset-small a h) in
+    let small : merged r byte < 256 = or-lt 8 (bitAnd byte (r .1)) (bitAnd (r .0) (bitXor (r .1) 0xFF)) (omega (arith, and-le-r byte (r .1))) (omega (arith, and-le-l (r .0) (bitXor (r .1) 0xFF))) in
+    let b : (k : ℕ) → k < 8 → bit k (merged r byte) ≡ pick (bit k (maskOf a)) (bit k byte) (bit k (resetOf a)) =
+    λ k l. bit-merged r byte k l ∙ rw (mask-is a h, row-reset a h w) in
+    byte-bits (merged r byte) small
+    ∙ rw (b 7 (omega arith), b 6 (omega arith), b 5 (omega arith), b 4 (omega arith), b 3 (omega arith), b 2 (omega arith), b 1 (omega arith), b 0 (omega arith))
+
+-- where no bit can be written, the reset byte stays
+pub masked-none : (a byte : ℕ) → a < 64 → writable a ≡ false → masked a byte ≡ resetOf a
+unfolding masked bit
+masked-none a byte h w =
+    let m : maskOf a ≡ 0 = sym (mask-is a h) ∙ eqb-true (rowAt a .1) 0 (not-false (eqb (rowAt a .1) 0) w) in
+    rw m (sym (byte-bits (resetOf a) (reset-small a h)))
+
+-- ---- the refusals, at each address and byte
+pub everywhere : (f g : ℕ → ℕ → Bool) → upFrom (λ a. upFrom (f a) 0 256) 0 64 ≡ upFrom (λ a. upFrom (g a) 0 256) 0 64
+    → (a b : ℕ) → a < 64 → b < 256 → f a b ≡ g a b
+everywhere f g e a b h k =
+    let row : upFrom (f a) 0 256 ≡ upFrom (g a) 0 256 =
+    sym (entry (λ c. upFrom (f c) 0 256) [] 64 a h) ∙ ap (λ (l : List (List Bool)). getD l a []) e ∙ entry (λ c. upFrom (g c) 0 256) [] 64 a h in
+    sym (entry (f a) false 256 b k) ∙ ap (λ (l : List Bool). getD l b false) row ∙ entry (g a) false 256 b k
+
+module _ (regs : List ℕ) where
+  refused2-is : (a b : ℕ) → a < 64 → b < 256 → reservedCode regs a b ≡ isRefused2 a b
+  unfolding reservedCode rangeOf modeOf isRefused2
+  refused2-is = everywhere (reservedCode regs) isRefused2 refl
+
+  refused3-is : (a b : ℕ) → a < 64 → b < 256 → notModelled regs (rowAt a) a b ≡ isRefused3 a b
+  unfolding notModelled rowAt rowOf lineOf listed refusedBits reservedAddresses latchOf isRefused3 bit
+  refused3-is = everywhere (λ a b. notModelled regs (rowAt a) a b) isRefused3 refl
+
+  pub accepts-is : (a b : ℕ) → b < 256 → accepted (writeAnswer regs a b) ≡ accepts a b
+  unfolding answerAt accepts
+  accepts-is a b k = go (ltb framesAt a) refl
+    where
+      tests : (r s : Bool) → accepted (pick r ReservedCode (pick s NotModelled Done)) ≡ not (either r s)
+      tests true s = refl
+      tests false true = refl
+      tests false false = refl
+
+      go : (t : Bool) → ltb framesAt a ≡ t → accepted (writeAnswer regs a b) ≡ accepts a b
+      go true e = let h = ltb-true framesAt a e in rw (e, lt-leb a 0x3F h)
+      go false e =
+          let h = ltb-false framesAt a e in
+          let low : a < 64 = omega arith in
+          rw (e, le-leb a 0x3F h, refused2-is a b low k, refused3-is a b low k) (tests (isRefused2 a b) (isRefused3 a b))

@@ -1,0 +1,85 @@
+-- The registers store what looking back over the events tells.
+-- Assumes nothing.
+use Prim.Native.Nat.{ℕ, _<_}
+use mathlib.Core.Bool.{Bool, true, false, not}
+use mathlib.Core.Path.{_≡_, refl, sym, ap, _∙_}
+use mathlib.Core.List.{List, [], _∷_}
+use native.Mathlib.Omega.{arith}
+use lib.Dec.{eqb}
+use lib.ListN.{getD}
+use borrow.Author.Tests.{eqb-true, eq-eqb, ne-eqb, eqb-false}
+use Rattle.laws.specs.Choice.{pick, both}
+use Rattle.laws.proofs.Finite.{left}
+use Rattle.codes.specs.Addresses.{resetAt}
+use Rattle.table.specs.Rows.{rowAt, rowOf, lineOf, listed, reservedAddresses, merged, writable}
+use Rattle.registers.specs.Answers.{accepted}
+use Rattle.registers.specs.Refused.{writeAnswer}
+use Rattle.registers.specs.Deeds.{softResetByte, isReset}
+use Rattle.registers.proofs.Verdicts.{reset-accepted}
+use Rattle.device.specs.Device.{firstBytes, powerUp}
+use Rattle.events.specs.Event.{Event, write, read, sample, cycle}
+use Rattle.events.specs.Event as event
+use Rattle.events.specs.Bank.{bank, stored}
+use Rattle.events.proofs.Runs.{bank-is, bank-length}
+use Rattle.rules.specs.Paper.{resetOf, masked, accepts}
+use Rattle.rules.specs.Stored.{Bytes, isSoftReset, isSpared, LastWrite, none, last, lastWrite, byteLeft, byteBy}
+use Rattle.rules.specs.Proper.{isStored}
+use Rattle.rules.proofs.Paper.{reset-is, masked-is, masked-none, accepts-is}
+use Rattle.rules.proofs.Proper.{proper}
+use Rattle.rules.proofs.Writes.{byteWritten, byte-written}
+
+-- where no bit can be written, the byte is the reset byte
+fixed-is : (es : List Event) (a : ℕ) → a < 64 → writable a ≡ false → stored es a ≡ resetOf a
+unfolding powerUp
+fixed-is es a h w = rw (← bank-is es) (proper es .fixed a h w ∙ reset-is a h)
+
+-- a soft reset's address has no bit that can be written, and a write to it is always accepted
+at-reset : (a byte : ℕ) → isReset a byte ≡ true → (isSpared a ≡ false) × (writable a ≡ false) × ((regs : List ℕ) → accepted (writeAnswer regs a byte) ≡ true)
+unfolding rowAt rowOf lineOf listed reservedAddresses
+at-reset a byte r = rw (eqb-true a resetAt (left (eqb a resetAt) (eqb byte softResetByte) r)) (refl, refl, λ regs. reset-accepted regs byte)
+
+module _ (es : List Event) (a : ℕ) (h : a < 64) where
+  -- a write to a itself
+  own : (byte : ℕ) → byte < 256 → stored es a ≡ byteBy es a → byteWritten (bank es) a a byte ≡ byteBy (write a byte ∷ es) a
+  unfolding byteBy
+  own byte k e =
+      rw (accepts-is (bank es) a byte k, eq-eqb a a refl) (go (accepts a byte) refl (isReset a byte) refl (writable a) refl)
+    where
+      go : (t : Bool) → accepts a byte ≡ t → (r : Bool) → isReset a byte ≡ r → (w : Bool) → writable a ≡ w
+          → pick r (pick (isSpared a) (stored es a) (getD firstBytes a 0)) (pick (both (both t w) true) (merged (rowAt a) byte) (stored es a))
+          ≡ byteLeft a (pick t (last byte) (pick (both r (not (isSpared a))) none (lastWrite es a)))
+      go true p true q w o = let z = at-reset a byte q in rw (z .0) (reset-is a h ∙ sym (masked-none a byte h (z .1)))
+      go true p false q true o = masked-is a byte h o
+      go true p false q false o = fixed-is es a h o ∙ sym (masked-none a byte h o)
+      go false p true q w o = cc (at-reset a byte q .2 (bank es), accepts-is (bank es) a byte k)
+      go false p false q w o = e
+
+  -- a write to another address
+  other : (c byte : ℕ) → eqb a c ≡ false → stored es a ≡ byteBy es a → byteWritten (bank es) a c byte ≡ byteBy (write c byte ∷ es) a
+  unfolding byteBy
+  other c byte n e =
+      let m : eqb c a ≡ false = ne-eqb c a (λ p. eqb-false a c n (sym p)) in
+      rw (n, m) (go (isReset c byte) (isSpared a) (isStored (bank es) c byte))
+    where
+      go : (r s t : Bool) → pick r (pick s (stored es a) (getD firstBytes a 0)) (pick (both t false) (merged (rowAt c) byte) (stored es a)) ≡ byteLeft a (pick (both r (not s)) none (lastWrite es a))
+      go true true t = e
+      go true false t = reset-is a h
+      go false s true = e
+      go false s false = e
+
+  written : (c byte : ℕ) → byte < 256 → stored es a ≡ byteBy es a → stored (write c byte ∷ es) a ≡ byteBy (write c byte ∷ es) a
+  unfolding bank
+  written c byte k e = byte-written (bank es) (bank-length es) a c byte ∙ go (eqb a c) refl
+    where
+      go : (t : Bool) → eqb a c ≡ t → byteWritten (bank es) a c byte ≡ byteBy (write c byte ∷ es) a
+      go true f = rw (← eqb-true a c f) (own byte k e)
+      go false f = other c byte f e
+
+pub stored-is : (es : List Event) → Bytes es → (a : ℕ) → a < 64 → stored es a ≡ byteBy es a
+unfolding bank byteBy
+stored-is [] b a h = reset-is a h
+stored-is (event.powerUp ∷ es) b a h = reset-is a h
+stored-is (write c byte ∷ es) b a h = written es a h c byte (b .0) (stored-is es (b .1) a h)
+stored-is (read c n ∷ es) b a h = stored-is es b a h
+stored-is (sample x y z t ∷ es) b a h = stored-is es b a h
+stored-is (cycle ∷ es) b a h = stored-is es b a h
