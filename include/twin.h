@@ -10,15 +10,23 @@
 #include <stddef.h>
 #include <stdint.h>
 
-/* The record, field for field as the library has it. Private: use the functions. */
+/* The record, field for field as the library has it. Private: use the functions. Padding between the fields has no meaning and may
+ * change at any event, so memcmp does not compare two records. */
 struct twin_channel { uint16_t code; bool fresh, locked; uint8_t held; };
 struct twin {
     uint8_t regs[64];
-    struct twin_channel x, y, z;
+    struct { struct twin_channel x, y, z; } channels;
     uint8_t temperature;
-    bool ready;
-    struct { uint8_t bytes[192]; size_t count; bool overrun; } fifo;
-    struct { int16_t x, y, z; bool known; uint8_t over, calm; bool status; uint8_t mark; bool falling; } motion;
+    bool came;
+    uint8_t frames[192];
+    struct { size_t count; bool overrun; } fifo;
+    struct {
+        struct { int16_t x, y, z; bool known; } previous;
+        struct {
+            struct { uint8_t over, calm; } runs;
+            struct { bool status; uint8_t mark; bool negative; } alarm;
+        } motion;
+    } detectors;
 };
 enum { TWIN_SIZE = 312, TWIN_ALIGN = 8 };
 _Static_assert(sizeof(struct twin) == TWIN_SIZE, "the record's size is the library's");

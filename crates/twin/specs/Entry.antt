@@ -1,63 +1,64 @@
 -- 01, "one thin entry that borrows the harness's own record and updates it for one event".
 use Prim.Native.Nat.{ℕ, _+_, _*_}
-use mathlib.Core.List.{List}
-use lib.Dec.{eqb}
+use mathlib.Core.List.{List, [], _∷_}
+use mathlib.Core.Option.{Option, some, none}
 use lib.IntN.{ℤ}
-use Rattle.laws.specs.Choice.{pick}
-use Rattle.registers.specs.Answers as device
-use Rattle.device.specs.Pins.{pinsOf}
-use Rattle.device.specs.Write.{writeOf}
-use Rattle.device.specs.Read.{readOf, readBytes}
-use Rattle.device.specs.Sample.{sampleOf, cycleOf}
+use lib.ListN.{length}
+use Rattle.laws.specs.Keys.{Key, _means_, meaningOf}
+use Rattle.registers.specs.Answers.{number}
+use Rattle.interrupts.specs.declared.Level.{Level}
+use Rattle.interrupts.specs.declared.Level.the-variants.{Low, High, Released}
+use Rattle.device.specs.Show.{pinsOf}
+use Rattle.device.specs.Read.{bufferAfter}
 use Rattle.device.specs.declared.Device.{Device}
 use Rattle.device.specs.declared.Answered.{Answered}
-use Rattle.device.specs.declared.pins.Level.{Level}
-use Rattle.device.specs.declared.pins.Level.the-variants.{Low, High, Released}
-use Rattle.benchlog.specs.Answers as log
+use Rattle.events.specs.Event.{Event, powerUp, write, read, sample, cycle, happens}
+use Rattle.benchlog.specs.Answers.{foundNumber}
 use Rattle.benchlog.specs.Format.{writeKind, readKind, sampleKind, cycleKind}
 use Rattle.benchlog.specs.declared.Found.the-variants.{WrongRecord}
 use Rattle.twin.specs.declared.Kind.{Kind}
 use Rattle.twin.specs.declared.Kind.the-variants.{Write, Read, Sample, CycleStart, Unknown}
 use Rattle.twin.specs.declared.Stepped.{Stepped}
 
+-- "1 write, 2 read, 3 sample, 4 cycle start"; any other number is no kind
+abbrev pub kinds : List (Key Kind)
+kinds = writeKind means Write ∷ readKind means Read ∷ sampleKind means Sample ∷ cycleKind means CycleStart ∷ []
+
+unfoldable pub kindOf : ℕ → Kind
+kindOf n = meaningOf kinds Unknown n
+
+-- the event of a kind: from the address, the byte, which is the temperature of a sample, x, y, z, and the count of bytes to read
+abbrev pub eventOf : Kind → ℕ → ℕ → ℤ → ℤ → ℤ → ℕ → Option Event
+eventOf Write address byte x y z count = some (write address byte)
+eventOf Read address byte x y z count = some (read address count)
+eventOf Sample address byte x y z count = some (sample x y z byte)
+eventOf CycleStart address byte x y z count = some cycle
+eventOf Unknown address byte x y z count = none
+
+-- the same from the number of a kind
+unfoldable pub asked : ℕ → ℕ → ℕ → ℤ → ℤ → ℤ → ℕ → Option Event
+asked kind address byte x y z count = eventOf (kindOf kind) address byte x y z count
+
 -- an event's answer by its number
 abbrev pub numberedOf : Answered → Stepped
-numberedOf done = record { number = device.number (done .answer); device = done .device }
+numberedOf done = record { number = number (done .answer); device = done .device }
 
--- 8, "record length or kind wrong": nothing changes
-abbrev pub refused : Device → Stepped
-refused d = record { number = log.number WrongRecord; device = d }
-
--- "1 write, 2 read, 3 sample, 4 cycle start"; any other number is no kind
-unfoldable pub kindOf : ℕ → Kind
-kindOf n =
-    pick (eqb n writeKind) Write
-    (pick (eqb n readKind) Read
-    (pick (eqb n sampleKind) Sample
-    (pick (eqb n cycleKind) CycleStart
-    Unknown)))
-
--- an event of a kind; the count is that of the bytes to read, and the byte of a sample its temperature
-abbrev pub eventOf : Kind → Device → ℕ → ℕ → ℤ → ℤ → ℤ → ℕ → Stepped
-eventOf Write d address byte x y z count = numberedOf (writeOf d address byte)
-eventOf Read d address byte x y z count = numberedOf (readOf d address count)
-eventOf Sample d address byte x y z count = numberedOf (sampleOf d x y z byte)
-eventOf CycleStart d address byte x y z count = numberedOf (cycleOf d)
-eventOf Unknown d address byte x y z count = refused d
-
-unfoldable pub stepOf : Device → ℕ → ℕ → ℕ → ℤ → ℤ → ℤ → ℕ → Stepped
-stepOf d kind address byte x y z count = eventOf (kindOf kind) d address byte x y z count
+-- what is asked for, done; where that is no event, 8, "record length or kind wrong", and the device as it was
+abbrev pub stepOf : Device → Option Event → Stepped
+stepOf d (some e) = numberedOf (happens d e)
+stepOf d none = record { number = foundNumber WrongRecord; device = d }
 
 -- the lent buffer after it: only a read writes there
-abbrev pub bytesOf : Kind → Device → ℕ → List ℕ → List ℕ
-bytesOf Write d address buffer = buffer
-bytesOf Read d address buffer = readBytes d address buffer
-bytesOf Sample d address buffer = buffer
-bytesOf CycleStart d address buffer = buffer
-bytesOf Unknown d address buffer = buffer
+abbrev pub lentAt : Device → Event → List ℕ → List ℕ
+lentAt d powerUp buffer = buffer
+lentAt d (write address byte) buffer = buffer
+lentAt d (read address count) buffer = bufferAfter d address buffer
+lentAt d (sample x y z temperature) buffer = buffer
+lentAt d cycle buffer = buffer
 
-unfoldable pub stepBytes : Device → ℕ → ℕ → List ℕ → List ℕ
-stepBytes d kind address buffer = bytesOf (kindOf kind) d address buffer
+abbrev pub lentAfter : Device → Option Event → List ℕ → List ℕ
+lentAfter d (some e) buffer = lentAt d e buffer
+lentAfter d none buffer = buffer
 
 -- "A pin is low, high or released"
 abbrev pub levelCode : Level → ℕ

@@ -4,7 +4,7 @@ ghost use lib.ListN.{length};
 ghost use prog.Memory.{size, align};
 ghost use Rattle.device.proofs.Device.Laws.{mir as deviceType};
 ghost use Rattle.device.specs.Device.{powerUp};
-ghost use Rattle.twin.specs.Entry.{kindOf, numberedOf, stepOf, stepBytes, pinsCode, levelCode};
+ghost use Rattle.twin.specs.Entry.{kindOf, asked, numberedOf, stepOf, lentAfter, pinsCode, levelCode};
 use benchlog::CYCLE;
 use benchlog::Found;
 use benchlog::READ;
@@ -12,7 +12,7 @@ use benchlog::SAMPLE;
 use benchlog::WRITE;
 use device::Answered;
 use device::Device;
-use device::Level;
+use interrupts::Level;
 
 // The kind of an event.
 enum Kind {
@@ -65,7 +65,8 @@ pub fn step(
     z: i16,
     buffer: &mut [u8],
 ) -> Stepped
-    ensures { λ r. ⌜ (r ≡ stepOf device kind address byte x y z (length (now (buffer .entry)))) × (now (buffer .exit) ≡ stepBytes device kind address (now (buffer .entry))) ⌝ }
+    ensures { λ r. ⌜ (r ≡ stepOf device (asked kind address byte x y z (length (now (buffer .entry)))))
+        × (now (buffer .exit) ≡ lentAfter device (asked kind address byte x y z (length (now (buffer .entry)))) (now (buffer .entry))) ⌝ }
 {
     let kind = kind_of(kind);
     match kind {
@@ -74,7 +75,7 @@ pub fn step(
         Kind::Sample => numbered(device.sample(x, y, z, byte)),
         Kind::CycleStart => numbered(device.start_cycle()),
         Kind::Unknown => Stepped {
-            number: benchlog::number_of(Found::WrongRecord),
+            number: benchlog::found_number_of(Found::WrongRecord),
             device,
         },
     }
@@ -113,9 +114,9 @@ pub extern "C" fn twin_event(
     z: i16,
     buffer: &mut [u8],
 ) -> u8
-    ensures { λ r. ⌜ (r ≡ stepOf (now (d .entry)) kind address byte x y z (length (now (buffer .entry))) .number)
-        × (now (d .exit) ≡ stepOf (now (d .entry)) kind address byte x y z (length (now (buffer .entry))) .device)
-        × (now (buffer .exit) ≡ stepBytes (now (d .entry)) kind address (now (buffer .entry))) ⌝ }
+    ensures { λ r. ⌜ (r ≡ stepOf (now (d .entry)) (asked kind address byte x y z (length (now (buffer .entry)))) .number)
+        × (now (d .exit) ≡ stepOf (now (d .entry)) (asked kind address byte x y z (length (now (buffer .entry)))) .device)
+        × (now (buffer .exit) ≡ lentAfter (now (d .entry)) (asked kind address byte x y z (length (now (buffer .entry)))) (now (buffer .entry))) ⌝ }
 {
     let s = step(*d, kind, address, byte, x, y, z, buffer);
     *d = s.device;

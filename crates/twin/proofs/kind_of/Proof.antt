@@ -1,5 +1,5 @@
-use borrow.Author.Tests.{ne-eqb}
-use Rattle.twin.specs.Entry.{kindOf}
+use Rattle.laws.proofs.Keys.{rest}
+use Rattle.twin.specs.Entry.{kinds, kindOf}
 use Rattle.twin.proofs.kind_of.Statement.{statement}
 use Rattle.twin.proofs.kind_of.Tie as tie
 
@@ -12,4 +12,4 @@ kind-of-spec =
     (λ c. simp (c .match .keys2))
     (λ c. simp (c .match .keys3))
     (λ c. simp (c .match .keys4))
-    (λ c. let r = c .match .rest in simp (ne-eqb _ _ (r .0 .0 .0 .1), ne-eqb _ _ (r .0 .0 .1), ne-eqb _ _ (r .0 .1), ne-eqb _ _ (r .1))))
+    (λ c. rest _ kinds _ _ (c .match .rest)))

@@ -2,8 +2,8 @@
 use Prim.Native.Nat.{ℕ, _≤_}
 use mathlib.Core.Path.{_≡_}
 use native.Mathlib.Omega.{arith}
-use Rattle.device.specs.declared.pins.Level.{Level}
-use Rattle.device.specs.declared.pins.Level.the-variants.{Low, High, Released}
+use Rattle.interrupts.specs.declared.Level.{Level}
+use Rattle.interrupts.specs.declared.Level.the-variants.{Low, High, Released}
 use Rattle.twin.specs.Entry.{levelCode, pinsCode}
 use Rattle.twin.proofs.pins_code.Statement.{statement}
 use Rattle.twin.proofs.pins_code.Tie as tie

@@ -1,39 +1,39 @@
 use mathlib.Core.Path.{sym, _∙_}
 use mir.Facts.{toZ-ofZ}
 use borrow.Author.Needs.{needs}
-use Rattle.twin.specs.Entry.{stepOf, stepBytes}
+use Rattle.twin.specs.Entry.{asked}
 use Rattle.twin.proofs.step.Statement.{statement}
 use Rattle.twin.proofs.step.Tie as tie
 
 write-returns : tie.Need-returns
-unfolding stepOf stepBytes
+unfolding asked
 write-returns c =
     let k = sym (c .before .before .before .before .kind-of .ensures) ∙ c .before .before .enum-told .given .1 in
     (simp (k, c .numbered .ensures, c .before .write .ensures), simp (k))
 
 read-returns : tie.Need-returns-2
-unfolding stepOf stepBytes
+unfolding asked
 read-returns c =
     let k = sym (c .before .before .before .before .before .before .before .kind-of .ensures) ∙ c .before .before .before .before .before .enum-told2 .given .1 in
     let r = c .before .before .before .read .ensures in
     (simp (k, c .numbered2 .ensures, r .0), simp (k, r .1))
 
 sample-returns : tie.Need-returns-3
-unfolding stepOf stepBytes
+unfolding asked
 sample-returns c =
     let k = sym (c .before .before .before .before .kind-of .ensures) ∙ c .before .before .enum-told3 .given .1 in
     let f = c .before .before .before .before .before .before .fits in
     (simp (k, c .numbered3 .ensures, c .before .sample .ensures, toZ-ofZ (f .x), toZ-ofZ (f .y), toZ-ofZ (f .z)), simp (k))
 
 cycle-returns : tie.Need-returns-4
-unfolding stepOf stepBytes
+unfolding asked
 cycle-returns c =
     let k = sym (c .before .before .before .before .kind-of .ensures) ∙ c .before .before .enum-told4 .given .1 in
     (simp (k, c .numbered4 .ensures, c .before .start-cycle .ensures), simp (k))
 
 refused-returns : tie.Need-returns-5
-unfolding stepOf stepBytes
-refused-returns c = let k = sym (c .before .before .before .kind-of .ensures) ∙ c .before .enum-told5 .given .1 in (simp (k, c .number-of .ensures), simp (k))
+unfolding asked
+refused-returns c = let k = sym (c .before .before .before .kind-of .ensures) ∙ c .before .enum-told5 .given .1 in (simp (k, c .found-number-of .ensures), simp (k))
 
 pub step-spec : {M : Type 1} → statement M
 step-spec =

@@ -49,7 +49,7 @@ use denote.Exit.{yes}
 use Rattle.device.specs.declared.Device.{Device}
 use Rattle.device.proofs.Device as T
 use Rattle.device.proofs.Device.Laws as T′
-use Rattle.twin.specs.Entry.{stepOf, stepBytes}
+use Rattle.twin.specs.Entry.{asked, stepOf, lentAfter}
 use Rattle.twin.specs.declared.Stepped.{Stepped}
 use Rattle.twin.proofs.Stepped as S
 use Rattle.twin.proofs.Stepped.Laws as S′
@@ -103,7 +103,7 @@ bits i = vint w16 (ofZ w16 i)
 
 -- what the callee says of its result and of the last list
 abbrev Said : Device → Event → List ℕ → Stepped → List ℕ → Type 0
-Said h e ys r zs = (r ≡ stepOf h (e .kind) (e .address) (e .byte) (e .x) (e .y) (e .z) (length ys)) × (zs ≡ stepBytes h (e .kind) (e .address) ys)
+Said h e ys r zs = let was = asked (e .kind) (e .address) (e .byte) (e .x) (e .y) (e .z) (length ys) in (r ≡ stepOf h was) × (zs ≡ lentAfter h was ys)
 
 -- the last values of `step`: one, that of its slice
 abbrev Ends : Type 0
