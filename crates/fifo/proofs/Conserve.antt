@@ -17,11 +17,11 @@ use Rattle.fifo.specs.Queue.{Queue, reached, pushed, without}
 use Rattle.fifo.specs.Ledger.{Event, sample, readout, Mark, taken, held, lost, heldIn, passed, arrives, takes, heldOf, takenOf, lostOf, anyLost, allOf, accepted, marks, run}
 
 -- no held sample is older than a taken one and, where the oldest is dropped, than a lost one
-abbrev Settled : {A : Type 0} → Drop → List (Mark A) → Type 0
-Settled r [] = Unit
-Settled r (taken a ∷ ms) = heldIn ms ≡ 0
-Settled r (held a ∷ ms) = Settled r ms
-Settled r (lost a ∷ ms) = Settled r ms × (r ≡ Oldest → heldIn ms ≡ 0)
+abbrev pub InOrder : {A : Type 0} → Drop → List (Mark A) → Type 0
+InOrder r [] = Unit
+InOrder r (taken a ∷ ms) = heldIn ms ≡ 0
+InOrder r (held a ∷ ms) = InOrder r ms
+InOrder r (lost a ∷ ms) = InOrder r ms × (r ≡ Oldest → heldIn ms ≡ 0)
 
 module _ {A : Type 0} where
   length-held : (ms : List (Mark A)) → length (heldOf ms) ≡ heldIn ms
@@ -30,13 +30,13 @@ module _ {A : Type 0} where
   length-held (held a ∷ ms) = omega (arith, length-append (heldOf ms) (a ∷ []), length-held ms)
   length-held (lost a ∷ ms) = length-held ms
 
-  none-held : (ms : List (Mark A)) → heldIn ms ≡ 0 → heldOf ms ≡ []
+  pub none-held : (ms : List (Mark A)) → heldIn ms ≡ 0 → heldOf ms ≡ []
   none-held [] e = refl
   none-held (taken a ∷ ms) e = none-held ms e
   none-held (held a ∷ ms) e = absurd (omega arith)
   none-held (lost a ∷ ms) e = none-held ms e
 
-  settled-none : (r : Drop) (ms : List (Mark A)) → heldIn ms ≡ 0 → Settled r ms
+  pub settled-none : (r : Drop) (ms : List (Mark A)) → heldIn ms ≡ 0 → InOrder r ms
   settled-none r [] e = tt
   settled-none r (taken a ∷ ms) e = e
   settled-none r (held a ∷ ms) e = absurd (omega arith)
@@ -49,13 +49,13 @@ module _ {A : Type 0} where
     out : takenOf ns ≡ takenOf ms ++ take k (heldOf ms)
     over : anyLost ns ≡ anyLost ms
     count : heldIn ns ≡ heldIn ms - k
-    order : Settled r ns
+    order : InOrder r ns
 
   -- one more mark of a kind
   snoc : {x y : List A} (a : A) → x ≡ y → x ++ (a ∷ []) ≡ y ++ (a ∷ [])
   snoc a e = rw e
 
-  read-all : (r : Drop) (k : ℕ) (ms : List (Mark A)) → Settled r ms → Read r k ms (takes k ms)
+  read-all : (r : Drop) (k : ℕ) (ms : List (Mark A)) → InOrder r ms → Read r k ms (takes k ms)
   read-all r k [] s = record { whole = refl; frames = sym (drop-nil k); out = sym (take-nil k); over = refl; count = omega arith; order = tt }
   read-all r k (taken a ∷ ms) s =
       let g = read-all r k ms (settled-none r ms s) in
@@ -112,7 +112,7 @@ module _ {A : Type 0} where
   passed-none (suc n) (lost a ∷ ms) e = rw (passed-none n ms e)
 
   -- with at most n held, that one is not held
-  passed-few : (n : ℕ) (ms : List (Mark A)) → Settled Oldest ms → heldIn ms ≤ n → passed n ms ≡ ms
+  passed-few : (n : ℕ) (ms : List (Mark A)) → InOrder Oldest ms → heldIn ms ≤ n → passed n ms ≡ ms
   passed-few n [] s h = refl
   passed-few zero (held a ∷ ms) s h = absurd (omega arith)
   passed-few (suc n) (held a ∷ ms) s h = rw (passed-few n ms s (omega arith))
@@ -126,9 +126,9 @@ module _ {A : Type 0} where
     out : takenOf ns ≡ takenOf ms
     over : anyLost ns ≡ true
     count : heldIn ns ≡ n
-    order : Settled Oldest ns
+    order : InOrder Oldest ns
 
-  passed-full : (n : ℕ) (ms : List (Mark A)) → Settled Oldest ms → heldIn ms ≡ suc n → Passed n ms (passed n ms)
+  passed-full : (n : ℕ) (ms : List (Mark A)) → InOrder Oldest ms → heldIn ms ≡ suc n → Passed n ms (passed n ms)
   passed-full n [] s h = absurd (omega arith)
   passed-full n (taken a ∷ ms) s h = absurd (omega arith)
   passed-full n (lost a ∷ ms) s h = absurd (omega (arith, s .1 refl))
@@ -153,7 +153,7 @@ record Sound {A : Type 0} (r : Drop) (d : ℕ) (q : Queue A) (o all : List A) (m
   out : o ≡ takenOf ms
   overrun : q .overrun ≡ anyLost ms
   few : heldIn ms ≤ d
-  order : Settled r ms
+  order : InOrder r ms
 
 module _ {A : Type 0} {q : Queue A} {o all : List A} {ms : List (Mark A)} where
   count-held : {r : Drop} {d : ℕ} → Sound r d q o all ms → length (q .frames) ≡ heldIn ms
@@ -232,6 +232,9 @@ module _ {A : Type 0} (s : Setting) (some : s .drops ≡ Oldest → 1 ≤ s .dep
   sound [] = record { whole = refl; frames = refl; out = refl; overrun = refl; few = omega arith; order = tt }
   sound (sample a ∷ es) = sound-arrives (s .drops) (s .depth) (s .size) a some (sound es)
   sound (readout n ∷ es) = sound-takes (reached (s .size) n) (sound es)
+
+  pub in-order : (es : List (Event A)) → InOrder (s .drops) (marks s es)
+  in-order es = sound es .order
 
   pub conserved : (es : List (Event A)) → Conserved s es
   conserved es =

@@ -1,6 +1,12 @@
+pub mod Counts
+pub mod Marks
+pub mod Taken
+pub mod Lost
+pub mod Chip
+pub mod Whole
 pub mod Writes
 pub mod Told
-pub mod Lost
 pub mod Conserve
 pub mod Runs
 pub mod Wrong
+pub mod Second

@@ -1,121 +1,110 @@
--- The ledger's "lost" is 01's, sample by sample.
+-- The ledger's "lost" is demand 3's, sample by sample: over any depth, drop rule and frame size.
 -- Assumes nothing.
-use Prim.Native.Nat.{ℕ, zero, suc, _≤_}
+use Prim.Native.Nat.{ℕ, zero, suc, _+_, _≤_, _<_}
 use mathlib.Core.Bool.{Bool, true, false}
 use mathlib.Core.List.{List, [], _∷_, _++_}
-use mathlib.Core.Logic.{_↔_, Iff·rfl, Iff·trans, _⊎_, inl, inr, ⊎-elim, ⊎-map}
+use mathlib.Core.Logic.{_↔_, ⊎-elim}
 use mathlib.Core.Option.{some}
-use mathlib.Core.Path.{_≡_, refl, ap}
+use mathlib.Core.Path.{_≡_, refl, ap, sym, _∙_}
 use native.Mathlib.Omega.{arith}
 use lib.Dec.{ltb}
-use lib.ListN.{getElem?}
-use borrow.Author.Tests.{ltb-true, ltb-false}
-use Rattle.laws.specs.Choice.{pick}
-use Rattle.codes.specs.Mode.{isReservedMode}
-use Rattle.codes.specs.declared.Axes.{Axes}
-use Rattle.codes.specs.declared.Mode.{Mode}
-use Rattle.codes.specs.declared.Mode.the-variants.{Bypass, Fifo, Stream, Reserved}
-use Rattle.fifo.specs.Ledger.{Event, sample, readout, Mark, taken, held, lost, heldIn, passed, takes, marks}
+use borrow.Author.Tests.{ltb-true, ltb-false, lt-ltb, le-ltb}
+use Rattle.fifo.specs.Ledger.{Event, sample, readout, held, lost, heldIn, marks}
 use Rattle.fifo.specs.Queue.{reached}
-use Rattle.fifo.specs.Setting.{sizeOf, settingOf}
+use Rattle.fifo.specs.declared.Drop.{Drop}
 use Rattle.fifo.specs.declared.Drop.the-variants.{Newcomer, Oldest}
 use Rattle.fifo.specs.declared.Setting.{Setting}
 use Rattle.fifo.proofs.Conserve.{conserved}
-use Rattle.history.specs.Lost.{arrivals, fate, Saw, LostIn}
+use Rattle.history.specs.Counts.{arrivals, heldAfter, enters}
+use Rattle.history.specs.Lost.{upTo, Saw, LostBy}
+use Rattle.history.proofs.Counts.{held-counted}
+use Rattle.history.proofs.Marks.{passed-lost, held-lost, takes-lost, arrives-lost}
+use Rattle.history.proofs.Taken.{fate, marked, shut-lost, kept, taken-in}
 
-module _ {A : Type 0} (a : A) where
-  -- ---- one mark of many
-  -- a sample passes the one that came d before it
-  passed-lost : (d n : ℕ) (ms : List (Mark A)) → getElem? (passed d ms) n ≡ some (lost a) → (getElem? ms n ≡ some (lost a)) ⊎ ((n ≡ d) × (getElem? ms n ≡ some (held a)))
-  passed-lost d n [] p = inl p
-  passed-lost zero zero (taken b ∷ ms) p = inl p
-  passed-lost zero zero (held b ∷ ms) p = inr (refl, cc)
-  passed-lost zero zero (lost b ∷ ms) p = inl p
-  passed-lost zero (suc n) (m ∷ ms) p = inl p
-  passed-lost (suc d) zero (m ∷ ms) p = inl p
-  passed-lost (suc d) (suc n) (m ∷ ms) p = ⊎-map (λ q. q) (λ q. (ap suc (q .0), q .1)) (passed-lost d n ms p)
+arrivals-append : {A : Type 0} (xs ys : List (Event A)) → arrivals (xs ++ ys) ≡ arrivals xs + arrivals ys
+arrivals-append [] ys = omega arith
+arrivals-append (sample a ∷ xs) ys = omega (arith, arrivals-append xs ys)
+arrivals-append (readout n ∷ xs) ys = arrivals-append xs ys
 
-  lost-stays : (d n : ℕ) (ms : List (Mark A)) → getElem? ms n ≡ some (lost a) → getElem? (passed d ms) n ≡ some (lost a)
-  lost-stays d n [] p = p
-  lost-stays zero zero (taken b ∷ ms) p = p
-  lost-stays zero zero (held b ∷ ms) p = cc
-  lost-stays zero zero (lost b ∷ ms) p = p
-  lost-stays zero (suc n) (m ∷ ms) p = p
-  lost-stays (suc d) zero (m ∷ ms) p = p
-  lost-stays (suc d) (suc n) (m ∷ ms) p = lost-stays d n ms p
-
-  held-lost : (n : ℕ) (ms : List (Mark A)) → getElem? ms n ≡ some (held a) → getElem? (passed n ms) n ≡ some (lost a)
-  held-lost n [] p = cc
-  held-lost zero (taken b ∷ ms) p = cc
-  held-lost zero (held b ∷ ms) p = cc
-  held-lost zero (lost b ∷ ms) p = cc
-  held-lost (suc n) (m ∷ ms) p = held-lost n ms p
-
-  -- a readout leaves the lost as they are, and makes no other
-  takes-lost : (k n : ℕ) (ms : List (Mark A)) → (getElem? (takes k ms) n ≡ some (lost a)) ↔ (getElem? ms n ≡ some (lost a))
-  takes-lost k n [] = Iff·rfl
-  takes-lost k zero (taken b ∷ ms) = Iff·rfl
-  takes-lost k zero (held b ∷ ms) = go (ltb (heldIn ms) k)
+module _ {A : Type 0} (s : Setting) (some-deep : s .drops ≡ Oldest → 1 ≤ s .depth) (one : 1 ≤ s .size) (earlier : List (Event A)) (a : A) where
+  -- ---- where the newcomer is dropped
+  newcomer-lost : s .drops ≡ Newcomer → (later : List (Event A)) → (fate s earlier a later ≡ some (lost a)) ↔ (heldAfter s earlier ≡ s .depth)
+  unfolding heldAfter
+  newcomer-lost f later = (λ p. full p (ltb (heldAfter s earlier) (s .depth)) refl, λ p. shut-lost s some-deep one earlier a (rw f (le-ltb (heldAfter s earlier) (s .depth) (omega arith))) later)
     where
-      go : (t : Bool) → (some (pick t (taken b) (held b)) ≡ some (lost a)) ↔ (some (held b) ≡ some (lost a))
-      go true = (λ p. cc, λ p. cc)
-      go false = Iff·rfl
-  takes-lost k zero (lost b ∷ ms) = Iff·rfl
-  takes-lost k (suc n) (taken b ∷ ms) = takes-lost k n ms
-  takes-lost k (suc n) (held b ∷ ms) = takes-lost k n ms
-  takes-lost k (suc n) (lost b ∷ ms) = takes-lost k n ms
+      few : heldAfter s earlier ≤ s .depth
+      few = omega (arith, held-counted s some-deep one earlier, conserved s some-deep earlier .few)
 
-module _ {A : Type 0} (d size : ℕ) (earlier : List (Event A)) (a : A) where
-  -- ---- FIFO mode
-  abbrev newcomer : Setting
-  newcomer = record { depth = d; drops = Newcomer; size = size }
+      full : fate s earlier a later ≡ some (lost a) → (t : Bool) → ltb (heldAfter s earlier) (s .depth) ≡ t → heldAfter s earlier ≡ s .depth
+      full p true e = absurd (kept s some-deep one earlier a f (rw f e) later p)
+      full p false e = omega (arith, ltb-false, few)
 
-  newcomer-lost : (later : List (Event A)) → (fate newcomer earlier a later ≡ some (lost a)) ↔ (heldIn (marks newcomer earlier) ≡ d)
-  newcomer-lost [] = go (ltb (heldIn (marks newcomer earlier)) d) refl (conserved newcomer (λ o. let z : _≡_ {A = ℕ} 0 1 = cc in omega arith) earlier .few)
-    where
-      go : (t : Bool) → ltb (heldIn (marks newcomer earlier)) d ≡ t → heldIn (marks newcomer earlier) ≤ d
-          → (some (pick t (held a) (lost a)) ≡ some (lost a)) ↔ (heldIn (marks newcomer earlier) ≡ d)
-      go true e f = (λ p. cc, λ p. absurd (omega (arith, ltb-true)))
-      go false e f = (λ p. omega (arith, ltb-false), λ p. refl)
-  newcomer-lost (sample b ∷ later) = newcomer-lost later
-  newcomer-lost (readout n ∷ later) = Iff·trans (takes-lost a (reached size n) (arrivals later) (marks newcomer (later ++ (sample a ∷ earlier)))) (newcomer-lost later)
+  -- ---- where the oldest is dropped: a sample was held when so many had come
+  record Passed (later : List (Event A)) : Type 0 where
+    rest : List (Event A)
+    last : A
+    between : List (Event A)
+    split : later ≡ rest ++ (sample last ∷ between)
+    arrived : suc (arrivals between) ≡ s .depth
+    then-held : fate s earlier a between ≡ some (held a)
 
-  -- ---- STREAM and BYPASS
-  abbrev oldest : Setting
-  oldest = record { depth = suc d; drops = Oldest; size = size }
-
-  saw-more : (e : Event A) (later : List (Event A)) → Saw oldest earlier a (suc d) later → Saw oldest earlier a (suc d) (e ∷ later)
-  saw-more e later w = record {
+  passed-more : (e : Event A) (later : List (Event A)) → Passed later → Passed (e ∷ later)
+  passed-more e later w = record {
     rest = e ∷ w .rest;
     last = w .last;
     between = w .between;
     split = ap (λ (l : List (Event A)). e ∷ l) (w .split);
     arrived = w .arrived;
-    unreached = w .unreached;
+    then-held = w .then-held;
   }
 
-  saw : (later : List (Event A)) → fate oldest earlier a later ≡ some (lost a) → Saw oldest earlier a (suc d) later
-  saw [] h = let z : _≡_ {A = ℕ} 0 1 = cc in absurd (omega arith)
-  saw (sample b ∷ later) h =
-      ⊎-elim (λ p. saw-more (sample b) later (saw later p))
-      (λ p. record { rest = []; last = b; between = later; split = refl; arrived = ap suc (p .0); unreached = p .1 })
-      (passed-lost a d (arrivals later) (marks oldest (later ++ (sample a ∷ earlier))) h)
-  saw (readout n ∷ later) h = saw-more (readout n) later (saw later (takes-lost a (reached size n) (arrivals later) (marks oldest (later ++ (sample a ∷ earlier))) .0 h))
+  module _ (f : s .drops ≡ Oldest) where
+    was-passed : (later : List (Event A)) → fate s earlier a later ≡ some (lost a) → Passed later
+    was-passed [] h =
+        ⊎-elim (λ p. let z : _≡_ {A = ℕ} 0 1 = cc in absurd (omega arith)) (λ p. absurd (omega (arith, some-deep f, p .0)))
+        (passed-lost a (s .depth) 0 (held a ∷ marks s earlier) (rw f at h))
+    was-passed (sample b ∷ later) h =
+        ⊎-elim (λ p. passed-more (sample b) later (was-passed later p))
+        (λ p. record { rest = []; last = b; between = later; split = refl; arrived = p .0; then-held = p .1 })
+        (passed-lost a (s .depth) (suc (arrivals later)) (held b ∷ marks s (upTo s earlier a later)) (rw f at h))
+    was-passed (readout n ∷ later) h = passed-more (readout n) later (was-passed later (takes-lost a (reached (s .size) n) (arrivals later) (marks s (upTo s earlier a later)) .0 h))
 
-  still-lost : (rest later : List (Event A)) → fate oldest earlier a later ≡ some (lost a) → fate oldest earlier a (rest ++ later) ≡ some (lost a)
-  still-lost [] later h = h
-  still-lost (sample b ∷ rest) later h = lost-stays a d (arrivals (rest ++ later)) (marks oldest ((rest ++ later) ++ (sample a ∷ earlier))) (still-lost rest later h)
-  still-lost (readout n ∷ rest) later h = takes-lost a (reached size n) (arrivals (rest ++ later)) (marks oldest ((rest ++ later) ++ (sample a ∷ earlier))) .1 (still-lost rest later h)
+    still-lost : (rest later : List (Event A)) → fate s earlier a later ≡ some (lost a) → fate s earlier a (rest ++ later) ≡ some (lost a)
+    still-lost [] later h = h
+    still-lost (sample b ∷ rest) later h = arrives-lost (s .drops) (s .depth) a b (arrivals (rest ++ later)) (marks s (upTo s earlier a (rest ++ later))) (still-lost rest later h)
+    still-lost (readout n ∷ rest) later h = takes-lost a (reached (s .size) n) (arrivals (rest ++ later)) (marks s (upTo s earlier a (rest ++ later))) .1 (still-lost rest later h)
 
-  seen : (later : List (Event A)) → Saw oldest earlier a (suc d) later → fate oldest earlier a later ≡ some (lost a)
-  seen later w =
-      let e : arrivals (w .between) ≡ d = omega (arith, w .arrived) in
-      rw (w .split) (still-lost (w .rest) (sample (w .last) ∷ w .between) (rw (← e) (held-lost a (arrivals (w .between)) (marks oldest (w .between ++ (sample a ∷ earlier))) (w .unreached))))
+    saw : (later : List (Event A)) → fate s earlier a later ≡ some (lost a) → Saw s earlier a (s .depth) later
+    saw later h =
+        let w = was-passed later h in
+        record {
+          rest = w .rest;
+          last = w .last;
+          between = w .between;
+          split = w .split;
+          arrived = w .arrived;
+          unreached = λ r. let t = taken-in s some-deep one earlier a (w .between) .1 r in let z : _≡_ {A = ℕ} 0 1 = cc in omega arith;
+        }
 
--- ---- in each mode, on a chip of any depth
-module _ (n : ℕ) (axes : Axes) {A : Type 0} (earlier : List (Event A)) (a : A) (later : List (Event A)) where
-  pub lost-in : (m : Mode) → isReservedMode m ≡ false → (fate (settingOf (suc n) m axes) earlier a later ≡ some (lost a)) ↔ LostIn (settingOf (suc n) m axes) earlier a (suc n) m later
-  lost-in Bypass r = (saw 0 (sizeOf axes) earlier a later, seen 0 (sizeOf axes) earlier a later)
-  lost-in Fifo r = newcomer-lost (suc n) (sizeOf axes) earlier a later
-  lost-in Stream r = (saw n (sizeOf axes) earlier a later, seen n (sizeOf axes) earlier a later)
-  lost-in Reserved r = let z : _≡_ {A = ℕ} 0 1 = cc in absurd (omega arith)
+    -- one that no readout reached is held until then
+    then-held : (between : List (Event A)) → arrivals between < s .depth → (fate s earlier a between ≡ some (lost a)) → ⊥
+    then-held between few h =
+        let w = was-passed between h in
+        omega (arith, w .arrived, arrivals-append (w .rest) (sample (w .last) ∷ w .between), ap arrivals (w .split))
+
+    seen : (later : List (Event A)) → Saw s earlier a (s .depth) later → fate s earlier a later ≡ some (lost a)
+    seen later w =
+        let b = w .between in
+        let i : arrivals b < s .depth = omega (arith, w .arrived) in
+        let h : fate s earlier a b ≡ some (held a) =
+        ⊎-elim (λ t. absurd (w .unreached (taken-in s some-deep one earlier a b .0 t))) (⊎-elim (λ t. t) (λ t. absurd (then-held b i t))) (marked s some-deep one earlier a b) in
+        let l : fate s earlier a (sample (w .last) ∷ b) ≡ some (lost a) =
+        rw (f, ← w .arrived) (held-lost a (suc (arrivals b)) (held (w .last) ∷ marks s (upTo s earlier a b)) h) in
+        rw (w .split) (still-lost (w .rest) (sample (w .last) ∷ b) l)
+
+  pub lost-in : (later : List (Event A)) → (fate s earlier a later ≡ some (lost a)) ↔ LostBy s earlier a (s .drops) later
+  lost-in later = go (s .drops) refl
+    where
+      go : (r : Drop) → s .drops ≡ r → (fate s earlier a later ≡ some (lost a)) ↔ LostBy s earlier a r later
+      go Newcomer f = newcomer-lost f later
+      go Oldest f = (saw f later, seen f later)

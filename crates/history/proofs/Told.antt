@@ -37,7 +37,8 @@ use Rattle.device.specs.declared.Device.{Device}
 use Rattle.device.proofs.Burst.{after-is}
 use Rattle.events.specs.Event.{Event, powerUp, write, read, sample, cycle}
 use Rattle.events.specs.Run.{after}
-use Rattle.history.specs.History.{readsOut, controlBy, control, frame, since}
+use Rattle.history.specs.Chip.{since}
+use Rattle.history.specs.History.{readsOut, controlBy, control, frame, saysHere, accelerometer}
 use Rattle.history.proofs.Writes.{Banked, banked-first, banked-written, clears-mode}
 
 -- the device d has c at 0x3E and holds the queue q
@@ -59,7 +60,7 @@ frame-is X x y z = refl
 frame-is Y x y z = refl
 frame-is Z x y z = refl
 
-frame-long : (a : Axes) (x y z : ℤ) → (sizeOf a ≤ length (frameOf a (codes x y z))) × (length (frame a x y z) ≡ sizeOf a)
+pub frame-long : (a : Axes) (x y z : ℤ) → (sizeOf a ≤ length (frameOf a (codes x y z))) × (length (frame a x y z) ≡ sizeOf a)
 unfolding frame
 frame-long All x y z = omega arith
 frame-long X x y z = omega arith
@@ -108,21 +109,21 @@ unfoldable pub queueAt : ℕ → List (ledger.Event (List ℕ)) → Queue (List 
 queueAt c es = run (settingOf depth (modeOf c) (axesOf c)) es .queue
 
 abbrev pub Told : List Event → Type 0
-Told es = Holds (control es) (queueAt (control es) (since es)) (after es)
+Told es = Holds (control es) (queueAt (control es) (since accelerometer es)) (after es)
 
 module _ (es : List Event) (h : Told es) where
   told-write : (a byte : ℕ) → Told (write a byte ∷ es)
-  unfolding control since after queueAt
+  unfolding control since saysHere after queueAt
   told-write a byte = go (clears a byte) refl (after-write h a byte)
     where
       go : (b : Bool) → clears a byte ≡ b
-          → Holds (pick (clears a byte) (controlBy a byte) (control es)) (pick (clears a byte) empty (queueAt (control es) (since es))) (writeOf (after es) a byte .device)
+          → Holds (pick (clears a byte) (controlBy a byte) (control es)) (pick (clears a byte) empty (queueAt (control es) (since accelerometer es))) (writeOf (after es) a byte .device)
           → Told (write a byte ∷ es)
       go true e w = rw e (rw e at w)
       go false e w = rw e (rw e at w)
 
   told-read : (a n : ℕ) → Told (read a n ∷ es)
-  unfolding control since after queueAt readOf readsOut
+  unfolding control since saysHere after queueAt readOf readsOut
   told-read a n = go (accepted (readAnswer a n)) refl (eqb a framesAt) refl
     where
       go : (ok : Bool) → accepted (readAnswer a n) ≡ ok → (out : Bool) → eqb a framesAt ≡ out → Told (read a n ∷ es)
@@ -131,7 +132,7 @@ module _ (es : List Event) (h : Told es) where
       go true e false l = rw (e, l) (after-burst h a n)
 
   told-sample : (x y z : ℤ) (t : ℕ) → Told (sample x y z t ∷ es)
-  unfolding control since after queueAt sampleOf
+  unfolding control since saysHere after queueAt sampleOf
   told-sample x y z t = go (accepted (sampleAnswer x y z)) refl
     where
       go : (ok : Bool) → accepted (sampleAnswer x y z) ≡ ok → Told (sample x y z t ∷ es)
@@ -139,11 +140,11 @@ module _ (es : List Event) (h : Told es) where
       go false e = rw e h
 
   told-cycle : Told (cycle ∷ es)
-  unfolding control since after cycleOf
+  unfolding control since saysHere after cycleOf
   told-cycle = record { regs = h .regs; same = h .same; fits = h .fits; mode = h .mode }
 
 pub told : (es : List Event) → Told es
-unfolding control since after queueAt
+unfolding control since saysHere after queueAt
 told [] = first
 told (powerUp ∷ es) = first
 told (write a byte ∷ es) = told-write es (told es) a byte

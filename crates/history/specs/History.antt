@@ -1,11 +1,15 @@
--- What events from power-up alone say of the FIFO: the samples that it was given since it was last cleared, and the readouts. What is
--- accepted is what 01's tables accept; only `twin` looks at a device. In a history the latest event stands first.
-use Prim.Native.Nat.{ℕ}
+-- The accelerometer: what its events from power-up alone say of the FIFO. What is accepted is what 01's tables accept; only `twin` looks
+-- at a device. In a history the latest event stands first.
+use Prim.Native.Nat.{ℕ, _≤_}
 use mathlib.Core.Bool.{Bool, true}
 use mathlib.Core.List.{List, [], _∷_, _++_}
+use mathlib.Core.Logic.{_↔_}
+use mathlib.Core.Option.{some}
+use mathlib.Core.Path.{_≡_}
 use lib.Bits.{bitAnd}
 use lib.Dec.{eqb}
 use lib.IntN.{ℤ}
+use lib.ListN.{length, getElem?}
 use Rattle.laws.specs.Bytes.{zeros}
 use Rattle.laws.specs.Choice.{pick, both}
 use Rattle.codes.specs.Addresses.{controlAt, framesAt}
@@ -13,7 +17,10 @@ use Rattle.codes.specs.Axes.{axesOf}
 use Rattle.codes.specs.Mode.{modeOf}
 use Rattle.codes.specs.declared.Axes.{Axes}
 use Rattle.codes.specs.declared.Axes.the-variants.{All, X, Y, Z}
+use Rattle.codes.specs.declared.Mode.{Mode}
+use Rattle.codes.specs.declared.Mode.the-variants.{Bypass, Fifo, Stream, Reserved}
 use Rattle.fifo.specs.Ledger as fifo
+use Rattle.fifo.specs.Ledger.{heldOf}
 use Rattle.fifo.specs.Setting.{settingOf}
 use Rattle.fifo.specs.declared.Setting.{Setting}
 use Rattle.channels.specs.Codes.{code, lsbOf, msbOf}
@@ -25,6 +32,10 @@ use Rattle.device.specs.Read.{bufferAfter}
 use Rattle.device.specs.Sample.{sampleAnswer}
 use Rattle.events.specs.Event.{Event, powerUp, write, read, sample, cycle}
 use Rattle.events.specs.Run.{after}
+use Rattle.history.specs.Chip.{Said, cleared, sampled, readOut, nothing, Chip, Twin, since}
+use Rattle.history.specs.Counts.{arrivals, heldAfter}
+use Rattle.history.specs.Demand.{fates, Demand3}
+use Rattle.history.specs.Lost.{Saw}
 
 -- an accepted read at 0x3F, of an address and a length
 unfoldable pub readsOut : ℕ → ℕ → Bool
@@ -58,19 +69,34 @@ frame X x y z = axis x
 frame Y x y z = axis y
 frame Z x y z = axis z
 
--- what the FIFO was told since it was last cleared: the accepted samples as frames, and the lengths of the readouts
-unfoldable pub since : List Event → List (fifo.Event (List ℕ))
-since [] = []
-since (powerUp ∷ es) = []
-since (write a byte ∷ es) = pick (clears a byte) [] (since es)
-since (read a n ∷ es) = pick (readsOut a n) (fifo.readout n ∷ since es) (since es)
-since (sample x y z t ∷ es) = pick (accepted (sampleAnswer x y z)) (fifo.sample (frame (axesOf (control es)) x y z) ∷ since es) (since es)
-since (cycle ∷ es) = since es
+-- what an event says to the FIFO: "cleared (by power-up, soft reset or an accepted write to 0x3E)", an accepted sample, or a readout
+unfoldable pub saysHere : List Event → Event → Said
+saysHere es powerUp = cleared
+saysHere es (write a byte) = pick (clears a byte) cleared nothing
+saysHere es (read a n) = pick (readsOut a n) (readOut n) nothing
+saysHere es (sample x y z t) = pick (accepted (sampleAnswer x y z)) (sampled (frame (axesOf (control es)) x y z)) nothing
+saysHere es cycle = nothing
 
--- a twin, as the bench sees it: the bytes that a read of n bytes from an address on gives, after the events
-abbrev pub Twin : Type 0
-Twin = List Event → ℕ → ℕ → List ℕ
+abbrev pub accelerometer : Chip
+accelerometer = record { Event = Event; says = saysHere; setting = setting }
 
--- the device's: what the lent buffer holds after the read
-unfoldable pub twin : Twin
+-- its twin: what the lent buffer holds after the read
+unfoldable pub twin : Twin accelerometer
 twin es a n = bufferAfter (after es) a (zeros n)
+
+-- ---- demand 3, with the accelerometer's number
+-- "In FIFO mode the lost are those that arrived while 32 were held; in STREAM mode (in BYPASS, with 1 for 32) those that saw 32 later
+-- accepted samples arrive before a readout reached them": a sample of the frame f, by what came earlier and later. No write of the
+-- reserved mode is accepted
+abbrev pub LostIn : Setting → Mode → List (fifo.Event (List ℕ)) → List ℕ → List (fifo.Event (List ℕ)) → Type 0
+LostIn s Fifo earlier f later = heldAfter s earlier ≡ 32
+LostIn s Stream earlier f later = Saw s earlier f 32 later
+LostIn s Bypass earlier f later = Saw s earlier f 1 later
+LostIn s Reserved earlier f later = ⊥
+
+pub record Demand3Here (t : Twin accelerometer) (es : List Event) : Type 0 where
+  pub demand : Demand3 accelerometer t es
+  pub lost : (later earlier : List (fifo.Event (List ℕ))) (f : List ℕ) → since accelerometer es ≡ later ++ (fifo.sample f ∷ earlier)
+      → (getElem? (fates accelerometer es) (arrivals later) ≡ some (fifo.lost f)) ↔ LostIn (setting es) (modeOf (control es)) earlier f later
+  -- "The held frames never exceed the depth"
+  pub few : length (heldOf (fates accelerometer es)) ≤ 32

@@ -1,3 +1,6 @@
-pub mod History
+pub mod Counts
 pub mod Lost
+pub mod Chip
 pub mod Demand
+pub mod Whole
+pub mod History

@@ -1,39 +1,46 @@
--- "lost", from the history of one sample: "in FIFO mode, it arrived while 32 were held; in STREAM and BYPASS, it saw 32, or 1, later
--- accepted samples arrive before a readout reached it".
-use Prim.Native.Nat.{ℕ, suc}
+-- "Taken" and "lost", from the history of one sample since the last clear, over any depth, drop rule and frame size.
+use Prim.Native.Nat.{ℕ, suc, _-_, _*_, _≤_, _<_}
+use mathlib.Core.Bool.{true}
 use mathlib.Core.Path.{_≡_}
-use mathlib.Core.List.{List, [], _∷_, _++_}
-use mathlib.Core.Option.{Option, some}
-use lib.ListN.{getElem?}
-use Rattle.codes.specs.declared.Mode.{Mode}
-use Rattle.codes.specs.declared.Mode.the-variants.{Bypass, Fifo, Stream, Reserved}
-use Rattle.fifo.specs.Ledger.{Event, sample, readout, Mark, held, heldIn, marks}
+use mathlib.Core.List.{List, _∷_, _++_}
+use Rattle.fifo.specs.Ledger.{Event, sample, readout}
+use Rattle.fifo.specs.declared.Drop.{Drop}
+use Rattle.fifo.specs.declared.Drop.the-variants.{Newcomer, Oldest}
 use Rattle.fifo.specs.declared.Setting.{Setting}
-
--- how many samples were accepted
-abbrev pub arrivals : {A : Type 0} → List (Event A) → ℕ
-arrivals [] = 0
-arrivals (sample a ∷ es) = suc (arrivals es)
-arrivals (readout n ∷ es) = arrivals es
+use Rattle.history.specs.Counts.{arrivals, enters, heldAfter, entered, left}
 
 -- a sample a, accepted after `earlier`
 module _ {A : Type 0} (s : Setting) (earlier : List (Event A)) (a : A) where
-  -- its mark, when `later` has come too
-  abbrev pub fate : List (Event A) → Option (Mark A)
-  fate later = getElem? (marks s (later ++ (sample a ∷ earlier))) (arrivals later)
+  -- all that came, when `later` has come too
+  abbrev pub upTo : List (Event A) → List (Event A)
+  upTo later = later ++ (sample a ∷ earlier)
 
-  -- "it saw 32, or 1, later accepted samples arrive before a readout reached it": it was still held when the last of them came
+  -- the number of its frame, if it enters: so many entered before it
+  abbrev pub frameNumber : ℕ
+  frameNumber = entered s earlier
+
+  -- a readout in `later` reached the first byte of its frame while it was held: "A frame counts as taken once its first byte is read"
+  pub record Reached (later : List (Event A)) : Type 0 where
+    pub rest : List (Event A)
+    pub bytes : ℕ
+    pub before : List (Event A)
+    pub split : later ≡ rest ++ (readout bytes ∷ before)
+    -- held: it entered, and had not left when the readout came
+    pub enter : enters (s .drops) (s .depth) (heldAfter s earlier) ≡ true
+    pub stays : left s (upTo before) ≤ frameNumber
+    -- "Frames come out oldest first": those ahead of it have size bytes each, and the next byte is read too
+    pub first : (frameNumber - left s (upTo before)) * s .size < bytes
+
+  -- "those that saw 32 later accepted samples arrive before a readout reached them"
   pub record Saw (many : ℕ) (later : List (Event A)) : Type 0 where
     pub rest : List (Event A)
     pub last : A
     pub between : List (Event A)
     pub split : later ≡ rest ++ (sample last ∷ between)
     pub arrived : suc (arrivals between) ≡ many
-    pub unreached : fate between ≡ some (held a)
+    pub unreached : Reached between → ⊥
 
-  -- on a chip of depth full; no write of the reserved mode is accepted
-  abbrev pub LostIn : ℕ → Mode → List (Event A) → Type 0
-  LostIn full Fifo later = heldIn (marks s earlier) ≡ full
-  LostIn full Stream later = Saw full later
-  LostIn full Bypass later = Saw 1 later
-  LostIn full Reserved later = ⊥
+  -- lost, by the drop rule: "those that arrived while 32 were held"; "those that saw 32 later accepted samples arrive .."
+  abbrev pub LostBy : Drop → List (Event A) → Type 0
+  LostBy Newcomer later = heldAfter s earlier ≡ s .depth
+  LostBy Oldest later = Saw (s .depth) later
