@@ -70,7 +70,7 @@ answered-0 PastEnd h = cc
 
 -- ---- a read of one byte
 module _ (d : Device) (a : ℕ) (h : a < 0x3F) where
-  one-read : readsBelow a 1 ≡ true
+  pub one-read : readsBelow a 1 ≡ true
   one-read = burst-is a 1 ∙ rw (lt-ltb a 0x3F h, le-leb (a + 1) 0x3F (omega arith))
 
   one-accepted : accepted (readAnswer a 1) ≡ true

@@ -1,6 +1,8 @@
 pub mod Paper
 pub mod Stored
 pub mod Bursts
+pub mod Back
+pub mod Data
 pub mod Past
 pub mod Rules
 pub mod Proper
