@@ -84,6 +84,10 @@ module _ (d : Device) (a : ℕ) (h : a < 0x3F) where
   unfolding singleBytes afterSingles
   single-bytes = rw (one-accepted, ne-eqb a framesAt (omega arith), add-zero)
 
+  pub single : gives d (read a 1) ≡ bytes (singleByte d a ∷ [])
+  unfolding readOf
+  single = rw (single-bytes, answered-0 (readAnswer a 1) one-accepted)
+
 -- ---- one more event behind a script
 module _ (f : ℕ → Event) where
   onward-more : (d : Device) (a n : ℕ) → onward d (upFrom f a (suc n)) ≡ next (onward d (upFrom f a n)) (f (a + n))

@@ -9,3 +9,5 @@ pub mod Channels
 pub mod Data
 pub mod Past
 pub mod Registers
+pub mod Reading
+pub mod Pins

@@ -3,6 +3,5 @@ pub mod Stored
 pub mod Bursts
 pub mod Back
 pub mod Data
-pub mod Past
 pub mod Rules
 pub mod Proper
