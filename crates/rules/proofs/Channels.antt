@@ -1,14 +1,13 @@
 -- The data channels show what looking back over the events tells.
 -- Assumes nothing.
-use Prim.Native.Nat.{ℕ, zero, suc, _+_, _*_, _/_, _%_, _<_, _≤_}
+use Prim.Native.Nat.{ℕ, suc, _<_}
 use mathlib.Core.Bool.{Bool, true, false, not}
 use mathlib.Core.Path.{_≡_, refl, sym, ap, _∙_}
-use mathlib.Core.List.{List, [], _∷_}
+use mathlib.Core.List.{List, _∷_}
 use native.Mathlib.Omega.{arith}
 use lib.Dec.{eqb, ltb, leb}
 use lib.IntN.{ℤ, pos, negsuc}
-use lib.ListN.{getD}
-use borrow.Author.Tests.{leb-true, leb-false, lt-ltb, le-ltb, ne-eqb, eqb-true}
+use borrow.Author.Tests.{leb-true, leb-false, lt-ltb, le-ltb, ne-eqb}
 use Rattle.laws.specs.Choice.{pick, both, either}
 use Rattle.laws.specs.Bits.{bit}
 use Rattle.laws.specs.Lists.{isIn}
@@ -20,10 +19,10 @@ use Rattle.channels.specs.declared.Channels.{Channels}
 use Rattle.registers.specs.Answers.{accepted}
 use Rattle.registers.specs.declared.Answer.the-variants.{Done, OutOfRange}
 use Rattle.device.specs.Sample.{sampleAnswer}
-use Rattle.events.specs.Event.{Event, powerUp, write, read, sample, cycle}
-use Rattle.rules.specs.Stored.{Bytes, byteBy}
-use Rattle.rules.specs.Back.{someSince, beforeLast}
-use Rattle.rules.specs.Data.{isStart, isInside, isSample, isRead, isRelease, noValues, valuesOf, lastSample, twelveBits, Axis, present, newData, locking, isLocked, xAxis, yAxis, zAxis}
+use Rattle.events.specs.Event.{Event, sample}
+use Rattle.rules.specs.Stored.{byteBy}
+use Rattle.rules.specs.Back.{beforeLast}
+use Rattle.rules.specs.Data.{isStart, isInside, isSample, isRead, isRelease, noValues, valuesOf, twelveBits, Axis, present, newData, locking, isLocked, dataAddresses, xAxis, yAxis, zAxis}
 
 -- a channel is as a history tells of its axis
 pub record Shows (axis : Axis) (h : List Event) (c : Channel) : Type 0 where
@@ -134,9 +133,6 @@ pub record Part (axis : Axis) (part : Channels → Channel) : Type 0 where
       → part (afterRead lock a c) ≡ pick (eqb a (axis .lsbAt)) (afterLsb lock (part c)) (pick (eqb a (suc (axis .lsbAt))) (unlocked (part c)) (part c))
 
 -- what a read does to a channel, by computation at the six addresses
-abbrev dataAddresses : List ℕ
-dataAddresses = 0x02 ∷ 0x03 ∷ 0x04 ∷ 0x05 ∷ 0x06 ∷ 0x07 ∷ []
-
 elsewhere : (a k : ℕ) → isIn dataAddresses a ≡ false → isIn dataAddresses k ≡ true → eqb a k ≡ false
 elsewhere a k h g = ne-eqb a k (λ (e : a ≡ k). no (sym h ∙ ap (λ (n : ℕ). isIn dataAddresses n) e ∙ g))
 

@@ -1,47 +1,44 @@
 -- After any events 0x02 to 0x07 are what looking back tells.
 -- Assumes nothing.
-use Prim.Native.Nat.{ℕ, zero, suc, _+_, _*_, _/_, _%_, _<_, _≤_}
+use Prim.Native.Nat.{ℕ, zero, suc, _+_, _/_, _<_, _≤_}
 use mathlib.Core.Bool.{Bool, true, false, not}
-use mathlib.Core.Path.{_≡_, refl, sym, ap, subst, _∙_}
+use mathlib.Core.Path.{_≡_, refl, subst, _∙_}
 use mathlib.Core.List.{List, [], _∷_}
 use native.Mathlib.Omega.{arith}
 use native.Mathlib.Nat.{add-zero}
 use lib.Bits.{and-zero-r}
-use lib.Dec.{eqb, ltb, leb}
+use lib.Dec.{eqb}
 use lib.IntN.{ℤ}
-use lib.ListN.{getD}
-use borrow.Author.Tests.{eqb-true, ne-eqb, lt-ltb, le-leb, leb-true, ltb-true}
-use Rattle.laws.specs.Choice.{pick, both, either}
+use borrow.Author.Tests.{eqb-true, lt-ltb, le-leb}
+use Rattle.laws.specs.Choice.{pick, both}
 use Rattle.laws.specs.Bits.{bit}
-use Rattle.laws.proofs.Finite.{right, picked}
+use Rattle.laws.proofs.Finite.{picked}
 use Rattle.codes.specs.Addresses.{shadowAt}
 use Rattle.table.specs.Rows.{rowAt, rowOf, lineOf, listed, refusedBits, reservedAddresses}
-use Rattle.channels.specs.Channels.{noSample, noSamples, sampled, released, withSample, afterLsb, unlocked, afterRead, byteAt, lsb, msb}
+use Rattle.channels.specs.Channels.{noSamples, sampled, released, afterLsb, unlocked, byteAt, lsb, msb}
 use Rattle.channels.specs.Codes.{codes, msbOf}
 use Rattle.channels.specs.declared.Channel.{Channel}
 use Rattle.channels.specs.declared.Channels.{Channels}
 use Rattle.registers.specs.Answers.{accepted}
 use Rattle.registers.specs.Refused.{writeAnswer, answerAt, reservedCode, notModelled}
 use Rattle.registers.specs.Deeds.{isReset, judgement, deedsOf}
-use Rattle.registers.specs.declared.Answer.the-variants.{Done}
 use Rattle.registers.proofs.Verdicts.{resets-is}
 use Rattle.device.specs.Device as device
 use Rattle.device.specs.Read.{channelsRead}
-use Rattle.device.specs.Sample.{sampleAnswer}
 use Rattle.device.specs.declared.Device.{Device}
 use Rattle.events.specs.Event.{Event, powerUp, write, read, sample, cycle}
 use Rattle.events.specs.Run.{after, behind}
-use Rattle.events.specs.Bank.{bank, stored}
-use Rattle.events.specs.Parts.{readsBelow, channelsNext}
+use Rattle.events.specs.Bank.{bank}
+use Rattle.events.specs.Parts.{channelsNext}
 use Rattle.events.proofs.Parts.{channels-next}
 use Rattle.events.proofs.Runs.{bank-is}
-use Rattle.rules.specs.Stored.{Bytes, isSoftReset, byteBy}
+use Rattle.rules.specs.Stored.{Bytes, byteBy}
 use Rattle.rules.specs.Bursts.{isBurst, singles, opened}
-use Rattle.rules.specs.Back.{someSince, beforeLast}
+use Rattle.rules.specs.Back.{beforeLast}
 use Rattle.rules.specs.Data.{isSample, isRead, isRelease, valuesOf, Axis, present, newData, locking, isLocked, lsbShown, msbShown, xAxis, yAxis, zAxis, dataBy}
 use Rattle.rules.proofs.Stored.{stored-is}
-use Rattle.rules.proofs.Bursts.{burst-is, one-read, opened-same}
-use Rattle.rules.proofs.Channels.{no, Shows, Meets, starts, samples, reads-lsb, unlocks, passes, code-is, sample-is, Part, x-part, y-part, z-part}
+use Rattle.rules.proofs.Bursts.{burst-is, burst-bounds, one-read, opened-same}
+use Rattle.rules.proofs.Channels.{no, Shows, starts, samples, reads-lsb, unlocks, passes, code-is, sample-is, Part, x-part, y-part, z-part}
 
 -- ---- a release
 shadow-accepted : (regs : List ℕ) (byte : ℕ) → accepted (writeAnswer regs shadowAt byte) ≡ true
@@ -64,9 +61,6 @@ module _ (axis : Axis) (part : Channels → Channel) (w : Part axis part) (h : L
   channel es = part (after es .channels)
 
   module _ (s : Shows axis h (channel h)) where
-    c : Channels
-    c = after h .channels
-
     after-event : (e : Event) → Shows axis (e ∷ h) (part (channelsNext (bank h) e (after h .channels))) → Shows axis (e ∷ h) (channel (e ∷ h))
     unfolding after
     after-event e p = rw (channels-next (after h) e, bank-is h) p
@@ -162,7 +156,7 @@ module _ (axis : Axis) (part : Channels → Channel) (w : Part axis part) where
   shows-read a n h b s = go (isBurst a n) refl
     where
       go : (t : Bool) → isBurst a n ≡ t → Right (pick t (behind (singles a n) h) (read a n ∷ h))
-      go true e = shows-singles a n (leb-true (a + n) 0x3F (right (leb 1 n) (leb (a + n) 0x3F) (right (ltb a 0x3F) (both (leb 1 n) (leb (a + n) 0x3F)) e))) h b s
+      go true e = shows-singles a n (burst-bounds a n e .1) h b s
       go false e = shows-other axis part w h s a n e
 
   shows-none : Right []

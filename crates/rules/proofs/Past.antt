@@ -1,27 +1,21 @@
 -- 0x08 and the data status are those of the samples so far, as looking back tells.
 -- Assumes nothing.
-use Prim.Native.Nat.{ℕ}
 use mathlib.Core.Bool.{Bool, true, false}
 use mathlib.Core.Path.{_≡_, refl, sym, ap, _∙_}
 use mathlib.Core.List.{List, [], _∷_}
-use lib.IntN.{ℤ}
 use Rattle.laws.specs.Choice.{pick, either}
 use Rattle.laws.proofs.Finite.{of-pick}
-use Rattle.registers.specs.Answers.{accepted}
 use Rattle.device.specs.Device as device
-use Rattle.device.specs.Sample.{sampleAnswer}
 use Rattle.device.specs.declared.Device.{Device}
 use Rattle.events.specs.Event.{Event, powerUp, write, read, sample, cycle}
 use Rattle.events.specs.Run.{after}
 use Rattle.events.specs.Parts.{temperatureNext, cameNext}
 use Rattle.events.proofs.Parts.{by-parts}
 use Rattle.rules.specs.Stored.{isSoftReset}
-use Rattle.rules.specs.Back.{someSince}
-use Rattle.rules.specs.Data.{isStart, isSample, Values, noValues, valuesOf, lastSample}
-use Rattle.rules.specs.Rules.{isCycle, cameBy}
+use Rattle.rules.specs.Data.{isSample, Values, noValues, valuesOf, lastSample}
+use Rattle.rules.specs.Rules.{cameBy}
 use Rattle.rules.proofs.Channels.{sample-is}
 
--- a choice with one side taken
 module _ (e : Event) (es : List Event) where
   temperature-next : temperatureNext e (lastSample es .temperature) ≡ lastSample (e ∷ es) .temperature
   temperature-next = go e

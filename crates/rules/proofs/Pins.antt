@@ -2,7 +2,7 @@
 -- Assumes nothing.
 use Prim.Native.Nat.{ℕ, _+_}
 use mathlib.Core.Bool.{Bool, true, false}
-use mathlib.Core.Path.{_≡_, refl, sym, _∙_}
+use mathlib.Core.Path.{_≡_, refl}
 use mathlib.Core.List.{List}
 use native.Mathlib.Omega.{arith}
 use Rattle.laws.specs.Bits.{bit, worth}
@@ -12,11 +12,11 @@ use Rattle.interrupts.specs.declared.Statuses.{Statuses}
 use Rattle.interrupts.specs.declared.Pin.the-variants.{Int1, Int2}
 use Rattle.device.specs.Device.{reg}
 use Rattle.device.specs.Show.{shownByte, pinsOf}
-use Rattle.device.specs.Read.{byteFrom, singleByte}
+use Rattle.device.specs.Read.{byteFrom}
 use Rattle.events.specs.Event.{Event}
 use Rattle.events.specs.Run.{after}
 use Rattle.rules.specs.Stored.{Bytes}
-use Rattle.rules.specs.Rules.{ruled, Mapped, toInt1, toInt2, someMapped, Leveled}
+use Rattle.rules.specs.Rules.{ruled, toInt1, toInt2, someMapped, Leveled}
 use Rattle.rules.proofs.Reading.{elsewhereIn, statusesNow, byte-ruled}
 
 -- each status stands in its bit

@@ -2,46 +2,43 @@
 -- Assumes nothing.
 use Prim.Native.Nat.{ℕ, zero, suc, _+_, _/_, _%_, _^_, _<_, _≤_}
 use mathlib.Core.Bool.{Bool, true, false}
-use mathlib.Core.Path.{_≡_, refl, sym, ap, _∙_}
-use mathlib.Core.List.{List, [], _∷_, _++_}
+use mathlib.Core.Path.{_≡_, refl, ap, _∙_}
+use mathlib.Core.List.{List, [], _∷_}
 use native.Mathlib.Omega.{arith}
 use native.Mathlib.Nat.{add-zero}
-use lib.Dec.{eqb, ltb, leb}
-use borrow.Author.Tests.{lt-ltb, eq-eqb, ne-eqb, leb-true}
-use Rattle.laws.specs.Choice.{pick, both}
+use lib.Dec.{eqb}
+use borrow.Author.Tests.{lt-ltb, eq-eqb, ne-eqb}
+use Rattle.laws.specs.Choice.{pick}
 use Rattle.laws.specs.Bits.{bit, worth}
-use Rattle.laws.proofs.Finite.{right}
 use Rattle.codes.specs.Addresses.{enablesAt, levelAt, controlAt}
 use Rattle.codes.specs.Mode.{modeOf, isReservedMode}
-use Rattle.codes.specs.declared.Mode.{Mode}
 use Rattle.codes.specs.declared.Mode.the-variants.{Bypass, Fifo, Stream, Reserved}
 use Rattle.fifo.specs.Setting.{depthIn}
-use Rattle.fifo.specs.Store.{room, countAt}
-use Rattle.fifo.proofs.Bounds.{Deep, depth-most}
+use Rattle.fifo.specs.Store.{countAt}
+use Rattle.fifo.proofs.Bounds.{depth-most}
 use Rattle.fifo.proofs.Store.{count-few}
 use Rattle.alarm.specs.Alarm.{Marked}
 use Rattle.alarm.proofs.Laws.{marked-small, marks-whole}
 use Rattle.alarm.proofs.Laws as alarm
-use Rattle.alarm.specs.declared.Alarm.{Alarm}
 use Rattle.interrupts.specs.Statuses.{statusesOf}
 use Rattle.interrupts.specs.Lines.{statusByte}
 use Rattle.interrupts.specs.declared.Statuses.{Statuses}
 use Rattle.detectors.specs.Detectors.{motionStatus}
-use Rattle.device.specs.Device.{depth, reg, withChannels}
+use Rattle.device.specs.Device.{depth, reg}
 use Rattle.device.specs.Show.{insideOf, statusesIn, shownByte}
 use Rattle.device.specs.Read.{byteFrom, singleByte}
 use Rattle.device.specs.declared.Device.{Device}
 use Rattle.events.specs.Event.{Event, read, Given, gives, bytes}
-use Rattle.events.specs.Run.{next, after, told}
-use Rattle.events.specs.Bank.{bank, stored}
+use Rattle.events.specs.Run.{after, told}
+use Rattle.events.specs.Bank.{stored}
 use Rattle.events.proofs.Runs.{bank-is}
-use Rattle.rules.specs.Stored.{Bytes, byteBy}
-use Rattle.rules.specs.Bursts.{isBurst, singles, joined, opened}
-use Rattle.rules.specs.Data.{lastSample, dataBy}
-use Rattle.rules.specs.Rules.{Elsewhere, cameBy, depthBy, dataStatus, fullStatus, watermarkStatus, ruled, ruledFrom}
-use Rattle.rules.proofs.Proper.{proper}
+use Rattle.rules.specs.Stored.{Bytes}
+use Rattle.rules.specs.Bursts.{isBurst, singles, joined}
+use Rattle.rules.specs.Data.{lastSample}
+use Rattle.rules.specs.Rules.{Elsewhere, dataStatus, fullStatus, watermarkStatus, ruled, ruledFrom}
+use Rattle.rules.proofs.Proper.{deep, proper}
 use Rattle.rules.proofs.Stored.{stored-is}
-use Rattle.rules.proofs.Bursts.{single, single-next, burst-gives}
+use Rattle.rules.proofs.Bursts.{burst-bounds, single, single-next, burst-gives}
 use Rattle.rules.proofs.Data.{data-is}
 use Rattle.rules.proofs.Past.{temperature-is, came-is}
 use Rattle.rules.proofs.Registers.{data-address, mode-known}
@@ -55,9 +52,6 @@ elsewhereIn d = record {
   mark = d .detectors .motion .alarm .mark;
   negative = d .detectors .motion .alarm .negative;
 }
-
-deep : Deep room depth
-deep = record { some = omega arith; space = omega arith }
 
 -- "Depth is 32 in FIFO and STREAM, 1 in BYPASS"
 depth-is : (b : ℕ) → isReservedMode (modeOf b) ≡ false → depthIn depth (modeOf b) ≡ pick (eqb (b / 64) 0b00) 1 32
@@ -138,9 +132,7 @@ singles-ruled es b a zero h = refl
 singles-ruled es b a (suc n) h = more-ruled es b a n (omega arith) (singles-ruled (read a 1 ∷ es) b (suc a) n (omega arith))
 
 pub reads : (es : List Event) → Bytes es → (a n : ℕ) → isBurst a n ≡ true → gives (after es) (read a n) ≡ bytes (ruledFrom (elsewhereIn (after es)) es a n)
-reads es b a n h =
-    let l = leb-true (a + n) 0x3F (right (leb 1 n) (leb (a + n) 0x3F) (right (ltb a 0x3F) (both (leb 1 n) (leb (a + n) 0x3F)) h)) in
-    burst-gives (after es) a n h ∙ rw (singles-ruled es b a n l)
+reads es b a n h = burst-gives (after es) a n h ∙ rw (singles-ruled es b a n (burst-bounds a n h .1))
 
 -- ---- the rule of each address that is not of the table
 module _ (es : List Event) where

@@ -36,7 +36,8 @@ use Rattle.events.specs.Event.{Event, write, read, answer, bytes, gives}
 use Rattle.events.specs.Run.{next, after, told}
 use Rattle.events.specs.Bank.{bank, stored}
 use Rattle.events.proofs.Runs.{bank-is, bank-length}
-use Rattle.rules.specs.Rules.{dataAddresses, isTabled}
+use Rattle.rules.specs.Data.{dataAddresses}
+use Rattle.rules.specs.Rules.{isTabled}
 use Rattle.rules.specs.Proper.{isStored, spared}
 use Rattle.rules.proofs.Bits.{bit-merged, bit-clear}
 use Rattle.rules.proofs.Codes.{accepted-clear, first-clear, range-stored, mode-stored, latch-stored}

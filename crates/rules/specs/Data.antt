@@ -107,6 +107,9 @@ module _ (axis : Axis) where
   msbShown es = present (pick (isLocked es) (beforeLast locking es) es) / 16
 
 -- 0x02 to 0x07: LSB and MSB of x, y and z
+abbrev pub dataAddresses : List ℕ
+dataAddresses = 0x02 ∷ 0x03 ∷ 0x04 ∷ 0x05 ∷ 0x06 ∷ 0x07 ∷ []
+
 abbrev pub xAxis : Axis
 xAxis = record { lsbAt = 0x02; value = λ v. v .x }
 

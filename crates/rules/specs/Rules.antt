@@ -14,7 +14,7 @@ use Rattle.events.specs.Event.{Event, powerUp, write, read, sample, cycle}
 use Rattle.rules.specs.Stored.{byteBy}
 use Rattle.rules.specs.Bursts.{opened}
 use Rattle.rules.specs.Back.{someSince}
-use Rattle.rules.specs.Data.{isStart, isSample, lastSample, dataBy}
+use Rattle.rules.specs.Data.{isStart, isSample, lastSample, dataAddresses, dataBy}
 
 -- ---- what the rules of the FIFO and of any-motion say at the end of the history
 pub record Elsewhere : Type 0 where
@@ -33,10 +33,6 @@ isCycle (write a byte) = false
 isCycle (read a n) = false
 isCycle (sample x y z temperature) = false
 isCycle cycle = true
-
--- 0x02 to 0x07
-abbrev pub dataAddresses : List ℕ
-dataAddresses = 0x02 ∷ 0x03 ∷ 0x04 ∷ 0x05 ∷ 0x06 ∷ 0x07 ∷ []
 
 -- ---- what else the statuses are made of
 -- "an accepted sample came since the last cycle start or reset"
