@@ -1,19 +1,14 @@
 -- An event changes each part of the device by that part and the registers alone, and a refused one changes none.
 -- Assumes nothing.
-use Prim.Native.Nat.{ℕ}
 use mathlib.Core.Bool.{Bool, true, false, not}
-use mathlib.Core.List.{List}
 use mathlib.Core.Path.{_≡_, refl, ap}
 use lib.Dec.{eqb}
 use Rattle.laws.specs.Choice.{pick, both}
 use Rattle.codes.specs.Addresses.{framesAt}
-use Rattle.fifo.specs.Flat.{Flat, numbersOf}
-use Rattle.channels.specs.declared.Channels.{Channels}
-use Rattle.detectors.specs.declared.Detectors.{Detectors}
+use Rattle.fifo.specs.Flat.{numbersOf}
 use Rattle.registers.specs.Answers.{accepted}
 use Rattle.registers.specs.Refused.{readAnswer}
 use Rattle.registers.specs.Deeds.{judgement}
-use Rattle.registers.specs.declared.Answer.the-variants.{Done}
 use Rattle.registers.proofs.Verdicts.{resets-is, empties-is}
 use Rattle.device.specs.Device as device
 use Rattle.device.specs.Device.{flatOf, withChannels}

@@ -3,17 +3,17 @@
 use Prim.Native.Nat.{ℕ}
 use mathlib.Core.Bool.{Bool, true, false}
 use mathlib.Core.List.{List, [], _∷_}
-use mathlib.Core.Path.{_≡_, refl, ap, _∙_}
+use mathlib.Core.Path.{_≡_, refl, _∙_}
 use lib.Dec.{ltb}
 use lib.ListN.{length, set, length-set}
 use Rattle.laws.specs.Choice.{pick}
 use Rattle.table.proofs.Rows.{reset-length}
 use Rattle.registers.specs.Deeds.{judgement}
 use Rattle.device.specs.Device as device
-use Rattle.device.specs.Device.{firstBytes, chipNumber}
+use Rattle.device.specs.Device.{firstBytes}
 use Rattle.device.specs.Write.{regsReset}
 use Rattle.events.specs.Event.{Event, powerUp, write, read, sample, cycle}
-use Rattle.events.specs.Run.{next, after, behind, onward}
+use Rattle.events.specs.Run.{after, behind, onward}
 use Rattle.events.specs.Bank.{bankNext, bank}
 use Rattle.events.proofs.Parts.{regs-next}
 

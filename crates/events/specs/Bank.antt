@@ -2,9 +2,7 @@
 use Prim.Native.Nat.{ℕ}
 use mathlib.Core.List.{List, [], _∷_}
 use lib.ListN.{getD}
-use Rattle.laws.specs.Choice.{pick}
 use Rattle.registers.specs.Deeds.{judgement}
-use Rattle.registers.specs.declared.Judged.{Judged}
 use Rattle.device.specs.Device.{firstBytes}
 use Rattle.device.specs.Write.{regsWritten}
 use Rattle.events.specs.Event.{Event, powerUp, write, read, sample, cycle}

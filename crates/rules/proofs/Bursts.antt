@@ -18,7 +18,7 @@ use Rattle.registers.specs.declared.Answer.{Answer}
 use Rattle.registers.specs.declared.Answer.the-variants.{Done, NoAddress, ReservedCode, NotModelled, OutOfRange, BadLength, PastEnd}
 use Rattle.device.specs.Read.{singleByte, afterSingle, afterSingles, singleBytes, readOf}
 use Rattle.device.specs.declared.Device.{Device}
-use Rattle.events.specs.Event.{Event, powerUp, write, read, sample, cycle, Given, bytesAt, gives, bytes}
+use Rattle.events.specs.Event.{Event, powerUp, write, read, sample, cycle, bytesAt, gives, bytes}
 use Rattle.events.specs.Run.{next, after, behind, onward, told}
 use Rattle.events.specs.Parts.{readsBelow}
 use Rattle.events.proofs.Runs.{onward-after}
@@ -59,6 +59,12 @@ burst-is a n = go (ltb a 0x3F) refl
         rw (e, le-ltb framesAt a (omega arith), ne-eqb a framesAt (omega arith)) (low h (eqb n 0) refl (ltb 0x3F (a + n)) refl)
     go false e = let f : isBurst a n ≡ false = rw e in high (ltb-false a 0x3F e) (ltb framesAt a) refl ∙ sym f
 
+pub burst-bounds : (a n : ℕ) → isBurst a n ≡ true → (a < 0x3F) × (a + n ≤ 0x3F)
+burst-bounds a n h =
+    let some = leb 1 n in
+    let ends = leb (a + n) 0x3F in
+    (ltb-true a 0x3F (left (ltb a 0x3F) (both some ends) h), leb-true (a + n) 0x3F (right some ends (right (ltb a 0x3F) (both some ends) h)))
+
 answered-0 : (x : Answer) → accepted x ≡ true → number x ≡ 0
 answered-0 Done h = refl
 answered-0 NoAddress h = cc
@@ -70,7 +76,7 @@ answered-0 PastEnd h = cc
 
 -- ---- a read of one byte
 module _ (d : Device) (a : ℕ) (h : a < 0x3F) where
-  one-read : readsBelow a 1 ≡ true
+  pub one-read : readsBelow a 1 ≡ true
   one-read = burst-is a 1 ∙ rw (lt-ltb a 0x3F h, le-leb (a + 1) 0x3F (omega arith))
 
   one-accepted : accepted (readAnswer a 1) ≡ true
@@ -83,6 +89,10 @@ module _ (d : Device) (a : ℕ) (h : a < 0x3F) where
   pub single-bytes : bytesAt d (read a 1) ≡ singleByte d a ∷ []
   unfolding singleBytes afterSingles
   single-bytes = rw (one-accepted, ne-eqb a framesAt (omega arith), add-zero)
+
+  pub single : gives d (read a 1) ≡ bytes (singleByte d a ∷ [])
+  unfolding readOf
+  single = rw (single-bytes, answered-0 (readAnswer a 1) one-accepted)
 
 -- ---- one more event behind a script
 module _ (f : ℕ → Event) where
@@ -116,22 +126,19 @@ module _ (d : Device) (a : ℕ) where
   singles-bytes (suc n) h = bytes-more n (omega arith) (singles-after n (omega arith)) (singles-bytes n (omega arith))
 
   module _ (n : ℕ) (h : isBurst a n ≡ true) where
-    within : a + n ≤ 0x3F
-    within = leb-true (a + n) 0x3F (right (leb 1 n) (leb (a + n) 0x3F) (right (ltb a 0x3F) (both (leb 1 n) (leb (a + n) 0x3F)) h))
-
-    low : a < 0x3F
-    low = ltb-true a 0x3F (left (ltb a 0x3F) (both (leb 1 n) (leb (a + n) 0x3F)) h)
+    bounds : (a < 0x3F) × (a + n ≤ 0x3F)
+    bounds = burst-bounds a n h
 
     ok : accepted (readAnswer a n) ≡ true
     ok = left (accepted (readAnswer a n)) (not (eqb a framesAt)) (burst-is a n ∙ h)
 
     pub burst-device : next d (read a n) ≡ onward d (singles a n)
     unfolding readOf
-    burst-device = rw (ok, ne-eqb a framesAt (omega (arith, low)), singles-after n within)
+    burst-device = rw (ok, ne-eqb a framesAt (omega (arith, bounds .0)), singles-after n (bounds .1))
 
     pub burst-gives : gives d (read a n) ≡ bytes (joined (told d (singles a n)))
     unfolding readOf
-    burst-gives = rw (answered-0 (readAnswer a n) ok, ok, ne-eqb a framesAt (omega (arith, low)), singles-bytes n within)
+    burst-gives = rw (answered-0 (readAnswer a n) ok, ok, ne-eqb a framesAt (omega (arith, bounds .0)), singles-bytes n (bounds .1))
 
 -- ---- histories
 module _ (h es : List Event) (same : after h ≡ after es) where

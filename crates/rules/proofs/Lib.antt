@@ -5,5 +5,9 @@ pub mod Writes
 pub mod Proper
 pub mod Stored
 pub mod Bursts
+pub mod Channels
+pub mod Data
 pub mod Past
 pub mod Registers
+pub mod Reading
+pub mod Pins

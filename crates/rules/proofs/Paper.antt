@@ -3,13 +3,13 @@
 use Prim.Native.Nat.{ℕ, _<_}
 use mathlib.Core.Bool.{Bool, true, false, not}
 use mathlib.Core.Path.{_≡_, refl, sym, ap, _∙_}
-use mathlib.Core.List.{List, [], _∷_}
+use mathlib.Core.List.{List, []}
 use native.Mathlib.Omega.{arith}
-use lib.Bits.{bitAnd, bitOr, bitXor, and-le-r, and-le-l, or-lt}
-use lib.Dec.{eqb, ltb, leb}
+use lib.Bits.{bitAnd, bitXor, and-le-r, and-le-l, or-lt}
+use lib.Dec.{eqb, ltb}
 use lib.ListN.{length, getD}
 use borrow.Author.Tests.{eqb-true, not-false, ltb-true, ltb-false, le-leb, lt-leb}
-use Rattle.laws.specs.Choice.{pick, both, either}
+use Rattle.laws.specs.Choice.{pick, either}
 use Rattle.laws.specs.Bits.{bit}
 use Rattle.laws.specs.Table.{upFrom}
 use Rattle.laws.proofs.Table.{entry}
@@ -21,7 +21,7 @@ use Rattle.codes.specs.Addresses.{framesAt}
 use Rattle.table.specs.Rows.{rowAt, rowOf, lineOf, listed, refusedBits, reservedAddresses, resetBytes, merged, writable}
 use Rattle.registers.specs.Answers.{accepted}
 use Rattle.registers.specs.Refused.{writeAnswer, answerAt, reservedCode, notModelled}
-use Rattle.registers.specs.declared.Answer.the-variants.{Done, NoAddress, ReservedCode, NotModelled}
+use Rattle.registers.specs.declared.Answer.the-variants.{Done, ReservedCode, NotModelled}
 use Rattle.device.specs.Device.{firstBytes}
 use Rattle.rules.specs.Paper.{tableRows, rowsOf, resetOf, maskOf, byteOf, masked, isRefused2, isRefused3, accepts}
 use Rattle.rules.proofs.Bits.{bit-merged}

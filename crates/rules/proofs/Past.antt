@@ -1,90 +1,59 @@
--- The channels' codes, 0x08 and the data status are those of the last accepted sample, as the events alone tell.
+-- 0x08 and the data status are those of the samples so far, as looking back tells.
 -- Assumes nothing.
-use Prim.Native.Nat.{ℕ, zero, suc, _+_}
 use mathlib.Core.Bool.{Bool, true, false}
 use mathlib.Core.Path.{_≡_, refl, sym, ap, _∙_}
 use mathlib.Core.List.{List, [], _∷_}
-use lib.Dec.{eqb}
-use Rattle.laws.specs.Choice.{pick}
-use Rattle.laws.proofs.Finite.{picked, of-pick}
-use Rattle.channels.specs.Channels.{noSamples, sampled, released, afterRead, withX, withY, withZ}
-use Rattle.channels.specs.Codes.{codes}
-use Rattle.channels.specs.declared.Channels.{Channels}
-use Rattle.channels.specs.declared.Codes.{Codes}
-use Rattle.registers.specs.Answers.{accepted}
-use Rattle.registers.specs.Deeds.{isReset, judgement}
-use Rattle.registers.proofs.Verdicts.{resets-is}
+use Rattle.laws.specs.Choice.{pick, either}
+use Rattle.laws.proofs.Finite.{of-pick}
 use Rattle.device.specs.Device as device
-use Rattle.device.specs.Read.{channelsRead, locks}
-use Rattle.device.specs.Sample.{sampleAnswer}
 use Rattle.device.specs.declared.Device.{Device}
 use Rattle.events.specs.Event.{Event, powerUp, write, read, sample, cycle}
-use Rattle.events.specs.Run.{next, after}
-use Rattle.events.specs.Parts.{readsBelow, channelsNext, temperatureNext, cameNext}
+use Rattle.events.specs.Run.{after}
+use Rattle.events.specs.Parts.{temperatureNext, cameNext}
 use Rattle.events.proofs.Parts.{by-parts}
-use Rattle.rules.specs.Past.{Past, noPast, pastNext, past}
+use Rattle.rules.specs.Stored.{isSoftReset}
+use Rattle.rules.specs.Data.{isSample, Values, noValues, valuesOf, lastSample}
+use Rattle.rules.specs.Rules.{cameBy}
+use Rattle.rules.proofs.Channels.{sample-is}
 
--- what a device shows of the samples so far
-abbrev codesOf : Channels → Codes
-codesOf c = record { x = c .x .code; y = c .y .code; z = c .z .code }
+module _ (e : Event) (es : List Event) where
+  temperature-next : temperatureNext e (lastSample es .temperature) ≡ lastSample (e ∷ es) .temperature
+  temperature-next = go e
+    where
+      go : (e : Event) → temperatureNext e (lastSample es .temperature) ≡ lastSample (e ∷ es) .temperature
+      go powerUp = refl
+      go (write a byte) = sym (of-pick (λ (v : Values). v .temperature) (isSoftReset a byte) noValues (lastSample es))
+      go (read a n) = refl
+      go (sample x y z t) =
+          let s = sample x y z t in
+          rw (sample-is x y z t) (sym (of-pick (λ (v : Values). v .temperature) (isSample s) (valuesOf s) (lastSample es)))
+      go cycle = refl
 
-abbrev pub seen : Device → Past
-seen d = record { codes = codesOf (d .channels); temperature = d .temperature; came = d .came }
+  came-next : cameNext e (cameBy es) ≡ cameBy (e ∷ es)
+  unfolding cameBy
+  came-next = go e
+    where
+      wait : (b c : Bool) → pick b false c ≡ pick (either b false) false c
+      wait true c = refl
+      wait false c = refl
 
--- a read
-module _ (lock : Bool) where
-  read-codes : (a : ℕ) (c : Channels) → codesOf (afterRead lock a c) ≡ codesOf c
-  unfolding afterRead
-  read-codes a c =
-      let Same : Channels → Type 0 = λ s. codesOf s ≡ codesOf c in
-      picked Same (eqb a 0x02) (picked (λ k. Same (withX c k)) lock refl refl)
-      (picked Same (eqb a 0x03) refl
-      (picked Same (eqb a 0x04) (picked (λ k. Same (withY c k)) lock refl refl)
-      (picked Same (eqb a 0x05) refl
-      (picked Same (eqb a 0x06) (picked (λ k. Same (withZ c k)) lock refl refl)
-      (picked Same (eqb a 0x07) refl refl)))))
+      come : (b c : Bool) → pick b true c ≡ either b c
+      come true c = refl
+      come false c = refl
 
-  burst-codes : (c : Channels) (a n : ℕ) → codesOf (channelsRead lock c a n) ≡ codesOf c
-  unfolding channelsRead
-  burst-codes c a zero = refl
-  burst-codes c a (suc n) = read-codes (a + n) (channelsRead lock c a n) ∙ burst-codes c a n
+      go : (e : Event) → cameNext e (cameBy es) ≡ cameBy (e ∷ es)
+      go powerUp = refl
+      go (write a byte) = wait (isSoftReset a byte) (cameBy es)
+      go (read a n) = refl
+      go (sample x y z t) = rw (sample-is x y z t) (come (isSample (sample x y z t)) (cameBy es))
+      go cycle = refl
 
--- a write that resets the device or does not, and that releases locks or does not
-write-codes : (c : Channels) (resets releases : Bool) → codesOf (pick resets noSamples (pick releases (released c) c)) ≡ pick resets (noPast .codes) (codesOf c)
-write-codes c true releases = refl
-write-codes c false true = refl
-write-codes c false false = refl
+pub temperature-is : (es : List Event) → after es .temperature ≡ lastSample es .temperature
+unfolding after device.powerUp
+temperature-is [] = refl
+temperature-is (e ∷ es) = ap (λ (d : Device). d .temperature) (by-parts (after es) e) ∙ rw (temperature-is es) (temperature-next e es)
 
-codes-next : (d : Device) (e : Event) → codesOf (channelsNext (d .regs) e (d .channels)) ≡ pastNext (seen d) e .codes
-codes-next d powerUp = refl
-codes-next d (write a byte) =
-    let j = judgement (d .regs) a byte in
-    write-codes (d .channels) (j .deeds .resets) (j .deeds .releases) ∙ rw (resets-is (d .regs) a byte) (sym (of-pick (λ (p : Past). p .codes) (isReset a byte) noPast (seen d)))
-codes-next d (read a n) = picked (λ (c : Channels). codesOf c ≡ codesOf (d .channels)) (readsBelow a n) (burst-codes (locks d) (d .channels) a n) refl
-codes-next d (sample x y z t) = go (accepted (sampleAnswer x y z))
-  where
-    k : Codes
-    k = codes x y z
-
-    go : (ok : Bool) → codesOf (pick ok (sampled k (d .channels)) (d .channels)) ≡ pick ok (record { codes = k; temperature = t; came = true }) (seen d) .codes
-    go true = refl
-    go false = refl
-codes-next d cycle = refl
-
-rest-next : (d : Device) (e : Event) → (temperatureNext e (d .temperature) ≡ pastNext (seen d) e .temperature) × (cameNext e (d .came) ≡ pastNext (seen d) e .came)
-rest-next d powerUp = (refl, refl)
-rest-next d (write a byte) = let r = isReset a byte in (sym (of-pick (λ (p : Past). p .temperature) r noPast (seen d)), sym (of-pick (λ (p : Past). p .came) r noPast (seen d)))
-rest-next d (read a n) = (refl, refl)
-rest-next d (sample x y z t) =
-    let ok = accepted (sampleAnswer x y z) in
-    let new : Past = record { codes = codes x y z; temperature = t; came = true } in
-    (sym (of-pick (λ (p : Past). p .temperature) ok new (seen d)), sym (of-pick (λ (p : Past). p .came) ok new (seen d)))
-rest-next d cycle = (refl, refl)
-
-seen-next : (d : Device) (e : Event) → seen (next d e) ≡ pastNext (seen d) e
-seen-next d e = ap seen (by-parts d e) ∙ (λ i. record { codes = codes-next d e i; temperature = rest-next d e .0 i; came = rest-next d e .1 i })
-
-pub past-is : (es : List Event) → seen (after es) ≡ past es
-unfolding device.powerUp after past
-past-is [] = refl
-past-is (e ∷ es) = seen-next (after es) e ∙ rw (past-is es)
+pub came-is : (es : List Event) → after es .came ≡ cameBy es
+unfolding after device.powerUp cameBy
+came-is [] = refl
+came-is (e ∷ es) = ap (λ (d : Device). d .came) (by-parts (after es) e) ∙ rw (came-is es) (came-next e es)

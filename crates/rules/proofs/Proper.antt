@@ -9,7 +9,6 @@ use lib.Dec.{eqb}
 use lib.ListN.{length, getD}
 use borrow.Author.Tests.{eqb-true}
 use Rattle.laws.specs.Choice.{pick, both, either}
-use Rattle.laws.specs.Lists.{isIn}
 use Rattle.laws.proofs.Finite.{picked, alike, left, right}
 use Rattle.codes.specs.Addresses.{controlAt}
 use Rattle.codes.specs.Mode.{modeOf, isReservedMode}
@@ -26,7 +25,7 @@ use Rattle.detectors.specs.Detectors.{motionSettings, detectorsSampled, detecto
 use Rattle.detectors.specs.declared.Detectors.{Detectors}
 use Rattle.fifo.specs.Flat.{Flat}
 use Rattle.fifo.specs.Setting.{depthIn}
-use Rattle.fifo.specs.Store.{emptied, room, readAt}
+use Rattle.fifo.specs.Store.{emptied, room}
 use Rattle.fifo.proofs.Bounds.{Deep}
 use Rattle.fifo.proofs.Store.{pushed-few, read-few}
 use Rattle.registers.specs.Answers.{accepted}
@@ -34,17 +33,16 @@ use Rattle.registers.specs.Refused.{writeAnswer, answerAt, reservedCode, notMod
 use Rattle.registers.specs.Deeds.{isReset, judgement, clears}
 use Rattle.registers.specs.declared.Deeds.{Deeds}
 use Rattle.registers.proofs.Verdicts.{control-accepted}
-use Rattle.device.specs.Device.{firstBytes, depth, reg, flatOf}
+use Rattle.device.specs.Device.{firstBytes, depth, flatOf}
 use Rattle.device.specs.Device as device
 use Rattle.device.specs.Sample.{sampleAnswer, frameOf}
-use Rattle.device.specs.declared.Device.{Device}
 use Rattle.events.specs.Event.{Event, powerUp, write, read, sample, cycle}
-use Rattle.events.specs.Run.{next, after}
+use Rattle.events.specs.Run.{after}
 use Rattle.events.specs.Bank.{bankNext}
 use Rattle.events.specs.Parts.{flatNext, detectorsNext, readsFrames}
 use Rattle.events.proofs.Parts.{regs-next, flat-next, detectors-next}
 use Rattle.events.proofs.Runs.{bank-is, bank-length, first-length}
-use Rattle.rules.specs.Proper.{isStored, spared, Written, Proper}
+use Rattle.rules.specs.Proper.{isStored, Written, Proper}
 use Rattle.rules.proofs.Writes.{byteWritten, byte-written, byte-next}
 
 -- ---- the registers
@@ -75,7 +73,8 @@ module _ (regs : List ℕ) (long : length regs ≡ 64) (e : Event) (a : ℕ) (h 
 abbrev Few : List ℕ → Flat → Type 0
 Few regs f = f .count ≤ depthIn depth (modeOf (getD regs controlAt 0))
 
-deep : Deep room depth
+-- the store has room for the depth
+pub deep : Deep room depth
 deep = record { some = omega arith; space = omega arith }
 
 -- a write that does not clear the FIFO leaves 0x3E

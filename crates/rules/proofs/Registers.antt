@@ -1,17 +1,16 @@
--- Demand 2: after any events from power-up on, each address below 0x3F reads what its rule in 01 says, and so do the pins.
+-- 01, "Register table", after any events from power-up on: what is stored at each address, and what one write more does to it.
 -- Assumes nothing.
-use Prim.Native.Nat.{ℕ, _+_, _/_, _%_, _^_, _<_, _≤_}
+use Prim.Native.Nat.{ℕ, _<_}
 use mathlib.Core.Bool.{Bool, true, false, not}
 use mathlib.Core.Path.{_≡_, refl, sym, ap, _∙_}
 use mathlib.Core.List.{List, [], _∷_}
 use native.Mathlib.Omega.{arith}
-use native.Mathlib.Nat.{add-zero}
 use lib.Dec.{eqb, ltb}
 use lib.ListN.{getD}
-use borrow.Author.Tests.{eqb-true, ltb-true, le-ltb, lt-ltb, eq-eqb, ne-eqb}
+use borrow.Author.Tests.{eqb-true, ltb-true, lt-ltb, eq-eqb, ne-eqb}
 use Rattle.laws.specs.Choice.{pick, both, either}
 use Rattle.laws.specs.Lists.{isIn}
-use Rattle.laws.specs.Bits.{bit, worth}
+use Rattle.laws.specs.Bits.{bit}
 use Rattle.laws.proofs.Finite.{alike, left, right, all, each}
 use Rattle.codes.specs.Addresses.{rangeAt, latchAt, controlAt, resetAt, enablesAt, levelAt}
 use Rattle.codes.specs.Range.{rangeOf, isReservedRange}
@@ -19,25 +18,17 @@ use Rattle.codes.specs.Latch.{latchOf, isModelled}
 use Rattle.codes.specs.Mode.{modeOf, isReservedMode}
 use Rattle.table.specs.Rows.{listed, reservedAddresses, lineOf, refusedBits, rowOf, rowAt, resetBytes, merged, writable}
 use Rattle.channels.specs.Channels.{byteAt}
-use Rattle.fifo.specs.Setting.{depthIn}
-use Rattle.fifo.specs.Store.{room, countAt, statusAt}
-use Rattle.fifo.proofs.Bounds.{Deep, depth-most}
-use Rattle.fifo.proofs.Store.{count-few}
-use Rattle.alarm.specs.Alarm.{Marked, marksOf}
-use Rattle.alarm.proofs.Laws.{marked-small, marks-whole}
-use Rattle.alarm.proofs.Laws as alarm
-use Rattle.interrupts.specs.Statuses.{statusesOf}
-use Rattle.interrupts.specs.declared.Statuses.{Statuses}
+use Rattle.fifo.specs.Store.{statusAt}
 use Rattle.detectors.specs.Detectors.{motionMarks, detectorsWritten}
-use Rattle.interrupts.specs.Lines.{statusByte, isActive}
-use Rattle.interrupts.specs.Pins.{pinLevel}
+use Rattle.interrupts.specs.Statuses.{statusesOf}
+use Rattle.interrupts.specs.Lines.{statusByte}
 use Rattle.registers.specs.Answers.{number, accepted}
 use Rattle.registers.specs.Deeds.{softResetByte, isReset, judgement, deedsOf}
-use Rattle.registers.specs.Refused.{readAnswer, writeAnswer, answerAt, reservedCode, notModelled}
+use Rattle.registers.specs.Refused.{writeAnswer, answerAt, reservedCode, notModelled}
 use Rattle.registers.specs.declared.Answer.the-variants.{Done}
 use Rattle.device.specs.Device.{chipNumber, firstBytes, powerUp, depth, reg}
-use Rattle.device.specs.Show.{insideOf, sourcesOf, statusesIn, shownByte, pinsOf}
-use Rattle.device.specs.Read.{readOf, byteFrom, singleByte, singleBytes, afterSingles, isData}
+use Rattle.device.specs.Show.{insideOf, statusesIn, shownByte}
+use Rattle.device.specs.Read.{byteFrom, singleByte, isData}
 use Rattle.device.specs.Write.{writeOf, written, regsReset}
 use Rattle.device.specs.declared.Device.{Device}
 use Rattle.device.specs.declared.showing.Inside.{Inside}
@@ -45,59 +36,26 @@ use Rattle.events.specs.Event.{Event, write, read, answer, bytes, gives}
 use Rattle.events.specs.Run.{next, after, told}
 use Rattle.events.specs.Bank.{bank, stored}
 use Rattle.events.proofs.Runs.{bank-is, bank-length}
-use Rattle.rules.specs.Past.{Past, past}
-use Rattle.rules.specs.Rules.{dataWith, sourcesAfter, statusesAfter, alarmAfter, ruled, isTabled, pinsFrom}
-use Rattle.rules.specs.Proper.{isStored, spared, Proper}
+use Rattle.rules.specs.Data.{dataAddresses}
+use Rattle.rules.specs.Rules.{isTabled}
+use Rattle.rules.specs.Proper.{isStored, spared}
 use Rattle.rules.proofs.Bits.{bit-merged, bit-clear}
 use Rattle.rules.proofs.Codes.{accepted-clear, first-clear, range-stored, mode-stored, latch-stored}
 use Rattle.rules.proofs.Writes.{byteWritten, byte-written, reset-byte}
 use Rattle.rules.proofs.Proper.{proper}
-use Rattle.rules.proofs.Past.{past-is}
+use Rattle.rules.proofs.Bursts.{single}
 
 -- ---- the stored bytes, from the events alone
 pub registers : (es : List Event) (a : ℕ) → reg (after es) a ≡ stored es a
 registers es a = ap (λ (regs : List ℕ). getD regs a 0) (bank-is es)
 
--- ---- a read of one byte
-pub single : (d : Device) (a : ℕ) → a < 0x3F → gives d (read a 1) ≡ bytes (singleByte d a ∷ [])
-unfolding readOf readAnswer singleBytes afterSingles
-single d a h =
-    let p : ltb 0x3F a ≡ false = le-ltb 0x3F a (omega arith) in
-    let q : ltb 0x3F (a + 1) ≡ false = le-ltb 0x3F (a + 1) (omega arith) in
-    let r : ltb a 0x3F ≡ true = lt-ltb a 0x3F h in
-    let s : eqb a 0x3F ≡ false = ne-eqb a 0x3F (omega arith) in
-    rw (p, q, r, s) (rw add-zero)
-
--- ---- the rule of each address
-deep : Deep room depth
-deep = record { some = omega arith; space = omega arith }
-
-few-held : (es : List Event) → countAt depth (after es .fifo) ≡ after es .fifo .count
-few-held es = count-few deep (modeOf (reg (after es) controlAt)) (after es .fifo) (proper es .few)
-
-marked-mark : (es : List Event) → alarmAfter es .mark < 8
-marked-mark es = marked-small (alarmAfter es) (proper es .marked)
-
-data-are : (es : List Event) (a : ℕ) → byteAt (after es .channels) a ≡ dataWith (after es .channels) (past es .codes) a
-unfolding byteAt dataWith
-data-are es a = ap (λ (p : Past). dataWith (after es .channels) (p .codes) a) (past-is es)
-
-statuses-are : (es : List Event) → statusesIn (after es .regs) (insideOf (after es)) ≡ statusesAfter es
-unfolding statusesAfter
-statuses-are es = rw (few-held es, ap (λ (p : Past). p .came) (past-is es), bank-is es)
-
-byte-ruled : (es : List Event) (a : ℕ) → a < 64 → singleByte (after es) a ≡ ruled es a
-unfolding byteFrom shownByte ruled
-byte-ruled es a h =
-    rw (data-are es a, statuses-are es, few-held es, marks-whole (alarmAfter es) (marked-mark es), lt-ltb a 64 h, bank-is es, ap (λ (p : Past). p .temperature) (past-is es))
-
-pub reads : (es : List Event) (a : ℕ) → a < 0x3F → gives (after es) (read a 1) ≡ bytes (ruled es a ∷ [])
-reads es a h = single (after es) a h ∙ rw (byte-ruled es a (omega arith))
-
 -- ---- "Register table"
+pub data-address : (a : ℕ) → a < 64 → isData a ≡ isIn dataAddresses a
+data-address = alike isData (isIn dataAddresses) 64 refl
+
 tabled-byte : (d : Device) (a : ℕ) → a < 64 → isTabled a ≡ true → singleByte d a ≡ reg d a
 unfolding byteFrom shownByte
-tabled-byte d a h t = rw (lt-ltb a 64 h) (go (isData a) (eqb a 0x08) (eqb a 0x09) (eqb a 0x0A) (eqb a 0x0B) (eqb a 0x0E) t)
+tabled-byte d a h t = rw (lt-ltb a 64 h, data-address a h) (go (isIn dataAddresses a) (eqb a 0x08) (eqb a 0x09) (eqb a 0x0A) (eqb a 0x0B) (eqb a 0x0E) t)
   where
     s : Inside
     s = insideOf d
@@ -161,44 +119,6 @@ module _ (es : List Event) where
   unfolding powerUp firstBytes resetBytes rowAt rowOf lineOf listed refusedBits reservedAddresses
   reads-36 = reads-constant 0x10 (0x36 ∷ []) refl es 0x36 refl
 
-  -- "A sample sets .. 0x08"
-  pub reads-temperature : gives (after es) (read 0x08 1) ≡ bytes (past es .temperature ∷ [])
-  unfolding ruled
-  reads-temperature = reads es 0x08 (omega arith)
-
-  -- "any-motion (0x09 bit 2)"
-  pub reads-motion : gives (after es) (read 0x09 1) ≡ bytes (worth 4 (alarmAfter es .status) ∷ [])
-  unfolding ruled statusByte statusesAfter statusesOf
-  reads-motion = reads es 0x09 (omega arith) ∙ rw add-zero
-
-  pub reads-interrupts : gives (after es) (read 0x0A 1) ≡ bytes (statusByte 0x0A (statusesAfter es) ∷ [])
-  unfolding ruled
-  reads-interrupts = reads es 0x0A (omega arith)
-
-  -- the mark is 1, 2 or 4 while the status is set, and 0 else
-  pub reads-marks : (gives (after es) (read 0x0B 1) ≡ bytes ((alarmAfter es .mark + worth 8 (alarmAfter es .negative)) ∷ [])) × Marked (alarmAfter es)
-  unfolding ruled
-  reads-marks = (reads es 0x0B (omega arith), proper es .marked)
-
-  -- "The held frames never exceed the depth"
-  pub reads-frames : (gives (after es) (read 0x0E 1) ≡ bytes ((worth 128 (after es .fifo .overrun) + after es .fifo .count) ∷ [])) × (after es .fifo .count ≤ depthIn depth (modeOf (stored es controlAt)))
-  unfolding ruled
-  reads-frames = (reads es 0x0E (omega arith), rw (bank-is es) at (proper es .few))
-
-  -- "overrun in bit 7, frame count in 6:0"
-  pub frames-apart : (bit 7 (ruled es 0x0E) ≡ after es .fifo .overrun) × (ruled es 0x0E % 128 ≡ after es .fifo .count)
-  unfolding ruled bit
-  frames-apart = go (after es .fifo .overrun) (after es .fifo .count) (omega (arith, proper es .few, depth-most deep (modeOf (reg (after es) controlAt))))
-    where
-      go : (o : Bool) (c : ℕ) → c < 128 → (eqb ((worth 128 o + c) / 2 ^ 7 % 2) 1 ≡ o) × ((worth 128 o + c) % 128 ≡ c)
-      go true c h = (eq-eqb ((128 + c) / 2 ^ 7 % 2) 1 (omega arith), omega arith)
-      go false c h = (ne-eqb ((0 + c) / 2 ^ 7 % 2) 1 (omega arith), omega arith)
-
-  -- "0x0B bits 2:0 (z, y, x) mark the first over axis .., and bit 3 is 1 for a negative difference"
-  pub marks-apart : (bit 3 (ruled es 0x0B) ≡ alarmAfter es .negative) × (ruled es 0x0B % 8 ≡ alarmAfter es .mark) × (ruled es 0x0B < 16)
-  unfolding ruled
-  marks-apart = rw (← marks-whole (alarmAfter es) (marked-mark es)) (alarm.marks-apart (alarmAfter es) (marked-mark es))
-
   -- ---- the settings
   module _ (a : ℕ) (low : a < 64) where
     -- "A write changes masked bits only; other bits keep their reset value"
@@ -238,33 +158,6 @@ module _ (es : List Event) where
   -- "others are refused 3"
   pub latch-known : isModelled (latchOf (stored es latchAt)) ≡ true
   latch-known = let v = proper es .written latchAt (omega arith) (settable latchAt refl) in rw (← bank-is es, v .is) (latch-stored (v .regs) (v .byte) (v .ok))
-
--- ---- the pins
--- each status stands in its bit
-statuses-apart : (s : Statuses) → (bit 2 (statusByte 0x09 s) ≡ s .motion) × (bit 7 (statusByte 0x0A s) ≡ s .ready) × (bit 6 (statusByte 0x0A s) ≡ s .watermark) × (bit 5 (statusByte 0x0A s) ≡ s .full)
-unfolding bit statusByte
-statuses-apart s = let t = three (s .ready) (s .watermark) (s .full) in (alone (s .motion), t .0, t .1, t .2)
-  where
-    alone : (m : Bool) → bit 2 (worth 4 m + 0) ≡ m
-    alone true = refl
-    alone false = refl
-
-    three : (p q r : Bool) → (bit 7 (worth 128 p + (worth 64 q + (worth 32 r + 0))) ≡ p) × (bit 6 (worth 128 p + (worth 64 q + (worth 32 r + 0))) ≡ q) × (bit 5 (worth 128 p + (worth 64 q + (worth 32 r + 0))) ≡ r)
-    three true true true = (refl, refl, refl)
-    three true true false = (refl, refl, refl)
-    three true false true = (refl, refl, refl)
-    three true false false = (refl, refl, refl)
-    three false true true = (refl, refl, refl)
-    three false true false = (refl, refl, refl)
-    three false false true = (refl, refl, refl)
-    three false false false = (refl, refl, refl)
-
--- both levels are those that the bytes read say
-pub pins : (es : List Event) → pinsOf (after es) ≡ pinsFrom (ruled es)
-unfolding pinsOf pinLevel isActive ruled
-pins es =
-    let b = statuses-apart (statusesAfter es) in
-    rw (statuses-are es, bank-is es, b .0, b .1, b .2, b .3)
 
 -- ---- one write more
 -- an address that can be written is of the table, and not 0x14

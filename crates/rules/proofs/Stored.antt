@@ -2,9 +2,8 @@
 -- Assumes nothing.
 use Prim.Native.Nat.{ℕ, _<_}
 use mathlib.Core.Bool.{Bool, true, false, not}
-use mathlib.Core.Path.{_≡_, refl, sym, ap, _∙_}
+use mathlib.Core.Path.{_≡_, refl, sym, _∙_}
 use mathlib.Core.List.{List, [], _∷_}
-use native.Mathlib.Omega.{arith}
 use lib.Dec.{eqb}
 use lib.ListN.{getD}
 use borrow.Author.Tests.{eqb-true, eq-eqb, ne-eqb, eqb-false}
@@ -21,8 +20,8 @@ use Rattle.events.specs.Event.{Event, write, read, sample, cycle}
 use Rattle.events.specs.Event as event
 use Rattle.events.specs.Bank.{bank, stored}
 use Rattle.events.proofs.Runs.{bank-is, bank-length}
-use Rattle.rules.specs.Paper.{resetOf, masked, accepts}
-use Rattle.rules.specs.Stored.{Bytes, isSoftReset, isSpared, LastWrite, none, last, lastWrite, byteLeft, byteBy}
+use Rattle.rules.specs.Paper.{resetOf, accepts}
+use Rattle.rules.specs.Stored.{Bytes, isSpared, none, last, lastWrite, byteLeft, byteBy}
 use Rattle.rules.specs.Proper.{isStored}
 use Rattle.rules.proofs.Paper.{reset-is, masked-is, masked-none, accepts-is}
 use Rattle.rules.proofs.Proper.{proper}

@@ -1,6 +1,7 @@
 pub mod Paper
 pub mod Stored
 pub mod Bursts
-pub mod Past
+pub mod Back
+pub mod Data
 pub mod Rules
 pub mod Proper

@@ -1,101 +1,116 @@
--- 01, "Register table", "Data channels" and "Interrupts and pins", over a history: what each address below 0x3F reads.
-use Prim.Native.Nat.{ℕ, _+_}
-use mathlib.Core.Bool.{Bool, false, not}
+-- 01, "Register table", "Data channels" and "Interrupts and pins", over a history whose latest event stands first: what each address below
+-- 0x3F reads, and the pins.
+use Prim.Native.Nat.{ℕ, zero, suc, _+_, _/_}
+use mathlib.Core.Bool.{Bool, true, false, not}
 use mathlib.Core.List.{List, [], _∷_}
+use mathlib.Core.Path.{_≡_}
 use lib.Dec.{eqb}
 use Rattle.laws.specs.Choice.{pick, both, either}
 use Rattle.laws.specs.Lists.{isIn}
 use Rattle.laws.specs.Bits.{bit, worth}
-use Rattle.codes.specs.Addresses.{controlAt}
-use Rattle.codes.specs.Mode.{modeOf}
-use Rattle.channels.specs.Codes.{lsbOf, msbOf}
-use Rattle.channels.specs.declared.Channel.{Channel}
-use Rattle.channels.specs.declared.Channels.{Channels}
-use Rattle.channels.specs.declared.Codes.{Codes}
-use Rattle.fifo.specs.Setting.{depthIn}
-use Rattle.detectors.specs.Detectors.{motionStatus}
-use Rattle.alarm.specs.declared.Alarm.{Alarm}
-use Rattle.interrupts.specs.Statuses.{statusesOf}
-use Rattle.interrupts.specs.Lines.{statusByte}
-use Rattle.interrupts.specs.Pins.{levelOf}
-use Rattle.interrupts.specs.declared.Sources.{Sources}
-use Rattle.interrupts.specs.declared.Statuses.{Statuses}
-use Rattle.interrupts.specs.declared.Pins.{Pins}
-use Rattle.device.specs.Device.{depth}
-use Rattle.device.specs.Read.{isData}
-use Rattle.events.specs.Event.{Event}
-use Rattle.events.specs.Run.{after}
-use Rattle.events.specs.Bank.{bank, stored}
-use Rattle.rules.specs.Past.{past}
+use Rattle.interrupts.specs.declared.Level.{Level}
+use Rattle.interrupts.specs.declared.Level.the-variants.{Low, High, Released}
+use Rattle.events.specs.Event.{Event, powerUp, write, read, sample, cycle}
+use Rattle.rules.specs.Stored.{byteBy}
+use Rattle.rules.specs.Bursts.{opened}
+use Rattle.rules.specs.Back.{someSince}
+use Rattle.rules.specs.Data.{isStart, isSample, lastSample, dataAddresses, dataBy}
 
--- ---- the data registers
--- of a channel and the code of the present sample: "The LSB register holds its low four bits in 7:4, 0 in 3:1 and the new-data
--- bit in 0; the MSB register holds the upper eight"; "Reading the MSB gives the locked byte .., or the present one"
-abbrev pub lsbWith : Channel → ℕ → ℕ
-lsbWith c code = lsbOf (c .fresh) code
+-- ---- what the rules of the FIFO and of any-motion say at the end of the history
+pub record Elsewhere : Type 0 where
+  -- the frames held, and the overrun bit
+  pub count : ℕ
+  pub overrun : Bool
+  -- the status, its mark and its sign
+  pub moved : Bool
+  pub mark : ℕ
+  pub negative : Bool
 
-abbrev pub msbWith : Channel → ℕ → ℕ
-msbWith c code = pick (c .locked) (c .held) (msbOf code)
+-- the start of an acquisition cycle
+abbrev pub isCycle : Event → Bool
+isCycle powerUp = false
+isCycle (write a byte) = false
+isCycle (read a n) = false
+isCycle (sample x y z temperature) = false
+isCycle cycle = true
 
-unfoldable pub dataWith : Channels → Codes → ℕ → ℕ
-dataWith c k a =
-    pick (eqb a 0x02) (lsbWith (c .x) (k .x))
-    (pick (eqb a 0x03) (msbWith (c .x) (k .x))
-    (pick (eqb a 0x04) (lsbWith (c .y) (k .y))
-    (pick (eqb a 0x05) (msbWith (c .y) (k .y))
-    (pick (eqb a 0x06) (lsbWith (c .z) (k .z))
-    (pick (eqb a 0x07) (msbWith (c .z) (k .z))
-    0)))))
+-- ---- what else the statuses are made of
+-- "an accepted sample came since the last cycle start or reset"
+unfoldable pub cameBy : List Event → Bool
+cameBy es = someSince (λ e h. isSample e) (λ e h. either (isStart e) (isCycle e)) es
 
--- ---- the statuses
-abbrev pub sourcesAfter : List Event → Sources
-sourcesAfter es = record {
-  count = after es .fifo .count;
-  depth = depthIn depth (modeOf (stored es controlAt));
-  came = past es .came;
-  moved = motionStatus (after es .detectors);
-}
+-- "Depth is 32 in FIFO and STREAM, 1 in BYPASS"; "bits 7:6 are 00 BYPASS"
+abbrev pub depthBy : List Event → ℕ
+depthBy es = pick (eqb (byteBy es 0x3E / 64) 0b00) 1 32
 
-unfoldable pub statusesAfter : List Event → Statuses
-statusesAfter es = statusesOf (bank es) (sourcesAfter es)
+module _ (w : Elsewhere) (es : List Event) where
+  -- ---- the statuses
+  -- "0x17 bit 4 is 1 and an accepted sample came"
+  abbrev pub dataStatus : Bool
+  dataStatus = both (bit 4 (byteBy es 0x17)) (cameBy es)
 
--- any-motion's status, mark and sign
-abbrev pub alarmAfter : List Event → Alarm
-alarmAfter es = after es .detectors .motion .alarm
+  -- "0x17 bit 5 is 1 and the count equals the depth"
+  abbrev pub fullStatus : Bool
+  fullStatus = both (bit 5 (byteBy es 0x17)) (eqb (w .count) (depthBy es))
 
--- ---- the byte that each address below 0x3F reads
-unfoldable pub ruled : List Event → ℕ → ℕ
-ruled es a =
-    -- 0x02 to 0x07, of the last accepted sample
-    pick (isData a) (dataWith (after es .channels) (past es .codes) a)
-    -- "A sample sets .. 0x08"
-    (pick (eqb a 0x08) (past es .temperature)
-    -- "any-motion (0x09 bit 2)"
-    (pick (eqb a 0x09) (statusByte 0x09 (statusesAfter es))
-    -- "data (0x0A bit 7)", "watermark (0x0A bit 6)", "full (0x0A bit 5)"
-    (pick (eqb a 0x0A) (statusByte 0x0A (statusesAfter es))
-    -- "0x0B bits 2:0 (z, y, x) mark the first over axis .., and bit 3 is 1 for a negative difference"
-    (pick (eqb a 0x0B) (alarmAfter es .mark + worth 8 (alarmAfter es .negative))
-    -- "0x0E is overrun in bit 7, frame count in 6:0"
-    (pick (eqb a 0x0E) (worth 128 (after es .fifo .overrun) + after es .fifo .count)
-    -- "Register table"
-    (stored es a))))))
+  -- "0x17 bit 6 is 1, the level in 0x30 is not 0 and the count equals it"
+  abbrev pub watermarkStatus : Bool
+  watermarkStatus = both (bit 6 (byteBy es 0x17)) (both (not (eqb (byteBy es 0x30) 0)) (eqb (w .count) (byteBy es 0x30)))
+
+  -- ---- the byte that an address below 0x3F reads
+  unfoldable pub ruled : ℕ → ℕ
+  ruled a =
+      pick (isIn dataAddresses a) (dataBy (opened es) a)
+      -- "A sample sets .. 0x08"
+      (pick (eqb a 0x08) (lastSample es .temperature)
+      -- "any-motion (0x09 bit 2)"
+      (pick (eqb a 0x09) (worth 4 (w .moved))
+      -- "data (0x0A bit 7)", "watermark (0x0A bit 6)", "full (0x0A bit 5)"
+      (pick (eqb a 0x0A) (worth 128 dataStatus + worth 64 watermarkStatus + worth 32 fullStatus)
+      -- "0x0B bits 2:0 (z, y, x) mark the first over axis .., and bit 3 is 1 for a negative difference"
+      (pick (eqb a 0x0B) (w .mark + worth 8 (w .negative))
+      -- "0x0E is overrun in bit 7, frame count in 6:0"
+      (pick (eqb a 0x0E) (worth 128 (w .overrun) + w .count)
+      -- "Register table"
+      (byteBy es a))))))
+
+-- n bytes from address a on: "A burst below 0x3F equals single reads in rising address order"
+abbrev pub ruledFrom : Elsewhere → List Event → ℕ → ℕ → List ℕ
+ruledFrom w es a zero = []
+ruledFrom w es a (suc n) = ruled w es a ∷ ruledFrom w (read a 1 ∷ es) (suc a) n
 
 -- an address that reads a byte of the register table
 abbrev pub isTabled : ℕ → Bool
-isTabled a = not (either (isData a) (isIn (0x08 ∷ 0x09 ∷ 0x0A ∷ 0x0B ∷ 0x0E ∷ []) a))
+isTabled a = not (either (isIn dataAddresses a) (isIn (0x08 ∷ 0x09 ∷ 0x0A ∷ 0x0B ∷ 0x0E ∷ []) a))
 
 -- ---- the pins, from the bytes that are read
-abbrev pub active : (ℕ → ℕ) → Bool → Bool → Bool → Bool → Bool
-active r motion ready watermark full =
-    either (both (bit 2 (r 0x09)) motion)
-    (either (both (bit 7 (r 0x0A)) ready)
-    (either (both (bit 6 (r 0x0A)) watermark)
-    (either (both (bit 5 (r 0x0A)) full)
-    false)))
+-- a status, as an address and a bit, and the address and bit that map it to a pin
+pub record Mapped : Type 0 where
+  pub status : ℕ
+  pub statusBit : ℕ
+  pub map : ℕ
+  pub mapBit : ℕ
 
-abbrev pub pinsFrom : (ℕ → ℕ) → Pins
-pinsFrom r = record {
-  int1 = levelOf (active r (bit 2 (r 0x19)) (bit 0 (r 0x1A)) (bit 1 (r 0x1A)) (bit 2 (r 0x1A))) (bit 0 (r 0x20)) (bit 1 (r 0x20));
-  int2 = levelOf (active r (bit 2 (r 0x1B)) (bit 7 (r 0x1A)) (bit 6 (r 0x1A)) (bit 5 (r 0x1A))) (bit 2 (r 0x20)) (bit 3 (r 0x20));
-}
+abbrev mapped : ℕ → ℕ → ℕ → ℕ → Mapped
+mapped a i b j = record { status = a; statusBit = i; map = b; mapBit = j }
+
+-- "Maps: 0x19 bit 2 for INT1, 0x1B bit 2 for INT2; 0x1A bits 0, 1, 2 are data, watermark, full for INT1, and 7, 6, 5 for INT2"
+abbrev pub toInt1 : List Mapped
+toInt1 = mapped 0x09 2 0x19 2 ∷ mapped 0x0A 7 0x1A 0 ∷ mapped 0x0A 6 0x1A 1 ∷ mapped 0x0A 5 0x1A 2 ∷ []
+
+abbrev pub toInt2 : List Mapped
+toInt2 = mapped 0x09 2 0x1B 2 ∷ mapped 0x0A 7 0x1A 7 ∷ mapped 0x0A 6 0x1A 6 ∷ mapped 0x0A 5 0x1A 5 ∷ []
+
+-- "A pin is active when some mapped status is 1": of what is read at each address
+abbrev pub someMapped : (ℕ → ℕ) → List Mapped → Bool
+someMapped r [] = false
+someMapped r (m ∷ ms) = either (both (bit (m .statusBit) (r (m .status))) (bit (m .mapBit) (r (m .map)))) (someMapped r ms)
+
+-- of whether a pin is active, whether its active level is high, and whether it is open-drive: "0x20 bits 0 and 2 give the active level of
+-- INT1 and INT2; bits 1 and 3 choose open-drive, where an inactive pin is released"; one that is not open-drive has the other level
+pub record Leveled (active high opendrive : Bool) (level : Level) : Type 0 where
+  pub active-high : active ≡ true → high ≡ true → level ≡ High
+  pub active-low : active ≡ true → high ≡ false → level ≡ Low
+  pub idle-open : active ≡ false → opendrive ≡ true → level ≡ Released
+  pub idle-high : active ≡ false → opendrive ≡ false → high ≡ false → level ≡ High
+  pub idle-low : active ≡ false → opendrive ≡ false → high ≡ true → level ≡ Low

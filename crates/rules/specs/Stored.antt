@@ -1,6 +1,6 @@
 -- 01, "Register table": the byte that each address stores, by looking back over a history, whose latest event stands first.
 use Prim.Native.Nat.{ℕ, _<_}
-use mathlib.Core.Bool.{Bool, true, false, not}
+use mathlib.Core.Bool.{Bool, not}
 use mathlib.Core.List.{List, [], _∷_}
 use lib.Dec.{eqb}
 use Rattle.laws.specs.Choice.{pick, both}

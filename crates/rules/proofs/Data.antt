@@ -1,0 +1,200 @@
+-- After any events 0x02 to 0x07 are what looking back tells.
+-- Assumes nothing.
+use Prim.Native.Nat.{ℕ, zero, suc, _+_, _/_, _<_, _≤_}
+use mathlib.Core.Bool.{Bool, true, false, not}
+use mathlib.Core.Path.{_≡_, refl, subst, _∙_}
+use mathlib.Core.List.{List, [], _∷_}
+use native.Mathlib.Omega.{arith}
+use native.Mathlib.Nat.{add-zero}
+use lib.Bits.{and-zero-r}
+use lib.Dec.{eqb}
+use lib.IntN.{ℤ}
+use borrow.Author.Tests.{eqb-true, lt-ltb, le-leb}
+use Rattle.laws.specs.Choice.{pick, both}
+use Rattle.laws.specs.Bits.{bit}
+use Rattle.laws.proofs.Finite.{picked}
+use Rattle.codes.specs.Addresses.{shadowAt}
+use Rattle.table.specs.Rows.{rowAt, rowOf, lineOf, listed, refusedBits, reservedAddresses}
+use Rattle.channels.specs.Channels.{noSamples, sampled, released, afterLsb, unlocked, byteAt, lsb, msb}
+use Rattle.channels.specs.Codes.{codes, msbOf}
+use Rattle.channels.specs.declared.Channel.{Channel}
+use Rattle.channels.specs.declared.Channels.{Channels}
+use Rattle.registers.specs.Answers.{accepted}
+use Rattle.registers.specs.Refused.{writeAnswer, answerAt, reservedCode, notModelled}
+use Rattle.registers.specs.Deeds.{isReset, judgement, deedsOf}
+use Rattle.registers.proofs.Verdicts.{resets-is}
+use Rattle.device.specs.Device as device
+use Rattle.device.specs.Read.{channelsRead}
+use Rattle.device.specs.declared.Device.{Device}
+use Rattle.events.specs.Event.{Event, powerUp, write, read, sample, cycle}
+use Rattle.events.specs.Run.{after, behind}
+use Rattle.events.specs.Bank.{bank}
+use Rattle.events.specs.Parts.{channelsNext}
+use Rattle.events.proofs.Parts.{channels-next}
+use Rattle.events.proofs.Runs.{bank-is}
+use Rattle.rules.specs.Stored.{Bytes, byteBy}
+use Rattle.rules.specs.Bursts.{isBurst, singles, opened}
+use Rattle.rules.specs.Back.{beforeLast}
+use Rattle.rules.specs.Data.{isSample, isRead, isRelease, valuesOf, Axis, present, newData, locking, isLocked, lsbShown, msbShown, xAxis, yAxis, zAxis, dataBy}
+use Rattle.rules.proofs.Stored.{stored-is}
+use Rattle.rules.proofs.Bursts.{burst-is, burst-bounds, one-read, opened-same}
+use Rattle.rules.proofs.Channels.{no, Shows, starts, samples, reads-lsb, unlocks, passes, code-is, sample-is, Part, x-part, y-part, z-part}
+
+-- ---- a release
+shadow-accepted : (regs : List ℕ) (byte : ℕ) → accepted (writeAnswer regs shadowAt byte) ≡ true
+unfolding answerAt reservedCode notModelled rowAt rowOf lineOf listed refusedBits reservedAddresses
+shadow-accepted regs byte = rw (and-zero-r byte)
+
+releases-is : (regs : List ℕ) (a byte : ℕ) → judgement regs a byte .deeds .releases ≡ isRelease (write a byte)
+unfolding judgement deedsOf
+releases-is regs a byte = go (accepted (writeAnswer regs a byte)) refl (eqb a shadowAt) refl
+  where
+    go : (t : Bool) → accepted (writeAnswer regs a byte) ≡ t → (s : Bool) → eqb a shadowAt ≡ s → judgement regs a byte .deeds .releases ≡ both s (bit 6 byte)
+    go true e s f = rw (e, f)
+    go false e true f = cc (eqb-true a shadowAt f, shadow-accepted regs byte)
+    go false e false f = rw e
+
+-- ---- one event more
+module _ (axis : Axis) (part : Channels → Channel) (w : Part axis part) (h : List Event) where
+  -- the channel of the axis after the history
+  abbrev channel : List Event → Channel
+  channel es = part (after es .channels)
+
+  module _ (s : Shows axis h (channel h)) where
+    after-event : (e : Event) → Shows axis (e ∷ h) (part (channelsNext (bank h) e (after h .channels))) → Shows axis (e ∷ h) (channel (e ∷ h))
+    unfolding after
+    after-event e p = rw (channels-next (after h) e, bank-is h) p
+
+    shows-start : Shows axis (powerUp ∷ h) (channel (powerUp ∷ h))
+    shows-start = after-event powerUp (rw (w .none) (starts axis powerUp h (w .zeros) refl))
+
+    shows-write : (a byte : ℕ) → Shows axis (write a byte ∷ h) (channel (write a byte ∷ h))
+    shows-write a byte =
+        after-event (write a byte) (rw (resets-is (bank h) a byte, releases-is (bank h) a byte) (go (isReset a byte) refl (isRelease (write a byte)) refl))
+      where
+        e : Event
+        e = write a byte
+
+        go : (r : Bool) → isReset a byte ≡ r → (u : Bool) → isRelease e ≡ u
+            → Shows axis (e ∷ h) (part (pick r noSamples (pick u (released (after h .channels)) (after h .channels))))
+        go true p u q = rw (w .none) (starts axis e h (w .zeros) p)
+        go false p true q = rw (w .releases (after h .channels)) (unlocks axis e h (channel h) s false true refl (record { is-start = p; is-sample = refl; is-lsb = refl; is-msb = refl; is-release = q }))
+        go false p false q = passes axis e h (channel h) s (record { is-start = p; is-sample = refl; is-lsb = refl; is-msb = refl; is-release = q })
+
+    shows-sample : (x y z : ℤ) (t : ℕ) → Shows axis (sample x y z t ∷ h) (channel (sample x y z t ∷ h))
+    shows-sample x y z t = after-event (sample x y z t) (rw (sample-is x y z t) (go (isSample (sample x y z t)) refl))
+      where
+        e : Event
+        e = sample x y z t
+
+        go : (ok : Bool) → isSample e ≡ ok → Shows axis (e ∷ h) (part (pick ok (sampled (codes x y z) (after h .channels)) (after h .channels)))
+        go true p =
+            rw (w .samples x y z t (after h .channels))
+            (samples axis e h (channel h) s (record { is-start = refl; is-sample = p; is-lsb = refl; is-msb = refl; is-release = refl }) _ (code-is (axis .value (valuesOf e)) (w .inside x y z t p)))
+        go false p = passes axis e h (channel h) s (record { is-start = refl; is-sample = p; is-lsb = refl; is-msb = refl; is-release = refl })
+
+    shows-cycle : Shows axis (cycle ∷ h) (channel (cycle ∷ h))
+    shows-cycle = after-event cycle (passes axis cycle h (channel h) s (record { is-start = refl; is-sample = refl; is-lsb = refl; is-msb = refl; is-release = refl }))
+
+    -- a read that is no burst below 0x3F
+    shows-other : (a n : ℕ) → isBurst a n ≡ false → Shows axis (read a n ∷ h) (channel (read a n ∷ h))
+    shows-other a n b =
+        after-event (read a n) (rw (burst-is a n, b) (passes axis (read a n) h (channel h) s (record { is-start = refl; is-sample = refl; is-lsb = away (axis .lsbAt) (omega (arith, w .low)); is-msb = away (suc (axis .lsbAt)) (omega (arith, w .low)); is-release = refl })))
+      where
+        away : (k : ℕ) → k < 0x3F → isRead k (read a n) ≡ false
+        away k l = go (eqb a k) refl (eqb n 1) refl
+          where
+            go : (p : Bool) → eqb a k ≡ p → (q : Bool) → eqb n 1 ≡ q → both p q ≡ false
+            go true f true g =
+                let one : isBurst k 1 ≡ true = rw (lt-ltb k 0x3F l, le-leb (k + 1) 0x3F (omega arith)) in
+                cc (eqb-true a k f, eqb-true n 1 g)
+            go true f false g = refl
+            go false f q g = refl
+
+    -- a read of one byte below 0x3F
+    shows-one : Bytes h → (a : ℕ) → a < 0x3F → Shows axis (read a 1 ∷ h) (channel (read a 1 ∷ h))
+    unfolding channelsRead
+    shows-one b a l =
+        after-event (read a 1) (rw (one-read (after h) a l, add-zero, stored-is h b shadowAt (omega arith), w .reads (not (bit 6 (byteBy h 0x13))) a (after h .channels)) (go (eqb a (axis .lsbAt)) refl (eqb a (suc (axis .lsbAt))) refl))
+      where
+        e : Event
+        e = read a 1
+
+        lock : Bool
+        lock = not (bit 6 (byteBy h 0x13))
+
+        go : (p : Bool) → eqb a (axis .lsbAt) ≡ p → (q : Bool) → eqb a (suc (axis .lsbAt)) ≡ q
+            → Shows axis (e ∷ h) (pick p (afterLsb lock (channel h)) (pick q (unlocked (channel h)) (channel h)))
+        go true f true g = absurd (omega (arith, eqb-true a (axis .lsbAt) f, eqb-true a (suc (axis .lsbAt)) g))
+        go true f false g = reads-lsb axis e h (channel h) s (record { is-start = refl; is-sample = refl; is-lsb = rw f; is-msb = rw g; is-release = refl }) lock refl
+        go false f true g = unlocks axis e h (channel h) s true false refl (record { is-start = refl; is-sample = refl; is-lsb = rw f; is-msb = rw g; is-release = refl })
+        go false f false g = passes axis e h (channel h) s (record { is-start = refl; is-sample = refl; is-lsb = rw f; is-msb = rw g; is-release = refl })
+
+-- ---- any events
+bytes-behind : (a n : ℕ) (h : List Event) → Bytes h → Bytes (behind (singles a n) h)
+bytes-behind a zero h b = b
+bytes-behind a (suc n) h b = bytes-behind (suc a) n (read a 1 ∷ h) b
+
+bytes-opened : (es : List Event) → Bytes es → Bytes (opened es)
+unfolding opened
+bytes-opened [] b = b
+bytes-opened (powerUp ∷ es) b = bytes-opened es b
+bytes-opened (write a byte ∷ es) b = (b .0, bytes-opened es (b .1))
+bytes-opened (read a n ∷ es) b = picked Bytes (isBurst a n) (bytes-behind a n (opened es) (bytes-opened es b)) (bytes-opened es b)
+bytes-opened (sample x y z t ∷ es) b = bytes-opened es b
+bytes-opened (cycle ∷ es) b = bytes-opened es b
+
+module _ (axis : Axis) (part : Channels → Channel) (w : Part axis part) where
+  abbrev Right : List Event → Type 0
+  Right h = Shows axis h (part (after h .channels))
+
+  shows-singles : (a n : ℕ) → a + n ≤ 0x3F → (h : List Event) → Bytes h → Right h → Right (behind (singles a n) h)
+  shows-singles a zero l h b s = s
+  shows-singles a (suc n) l h b s = shows-singles (suc a) n (omega arith) (read a 1 ∷ h) b (shows-one axis part w h s b a (omega arith))
+
+  shows-read : (a n : ℕ) (h : List Event) → Bytes h → Right h → Right (pick (isBurst a n) (behind (singles a n) h) (read a n ∷ h))
+  shows-read a n h b s = go (isBurst a n) refl
+    where
+      go : (t : Bool) → isBurst a n ≡ t → Right (pick t (behind (singles a n) h) (read a n ∷ h))
+      go true e = shows-singles a n (burst-bounds a n e .1) h b s
+      go false e = shows-other axis part w h s a n e
+
+  shows-none : Right []
+  unfolding after device.powerUp newData isLocked
+  shows-none = rw (w .none) (record { code = rw (w .zeros); fresh = refl; locked = refl; held = no })
+
+  shows : (es : List Event) → Bytes es → Right (opened es)
+  unfolding opened
+  shows [] b = shows-none
+  shows (powerUp ∷ es) b = shows-start axis part w (opened es) (shows es b)
+  shows (write a byte ∷ es) b = shows-write axis part w (opened es) (shows es (b .1)) a byte
+  shows (read a n ∷ es) b = shows-read a n (opened es) (bytes-opened es b) (shows es b)
+  shows (sample x y z t ∷ es) b = shows-sample axis part w (opened es) (shows es b) x y z t
+  shows (cycle ∷ es) b = shows-cycle axis part w (opened es) (shows es b)
+
+  module _ (es : List Event) (b : Bytes es) where
+    here : Shows axis (opened es) (part (after es .channels))
+    here = subst (λ (d : Device). Shows axis (opened es) (part (d .channels))) (opened-same es) (shows es b)
+
+    lsb-is : lsb (part (after es .channels)) ≡ lsbShown axis (opened es)
+    lsb-is = rw (here .code, here .fresh)
+
+    msb-is : msb (part (after es .channels)) ≡ msbShown axis (opened es)
+    msb-is = rw (here .code, here .locked) (go (isLocked axis (opened es)) refl)
+      where
+        go : (t : Bool) → isLocked axis (opened es) ≡ t
+            → pick t (part (after es .channels) .held) (msbOf (present axis (opened es))) ≡ present axis (pick t (beforeLast (locking axis) (opened es)) (opened es)) / 16
+        go true e = here .held e ∙ omega arith
+        go false e = omega arith
+
+pub data-is : (es : List Event) → Bytes es → (a : ℕ) → byteAt (after es .channels) a ≡ dataBy (opened es) a
+unfolding byteAt dataBy
+data-is es b a =
+    rw (
+      lsb-is xAxis (λ c. c .x) x-part es b,
+      msb-is xAxis (λ c. c .x) x-part es b,
+      lsb-is yAxis (λ c. c .y) y-part es b,
+      msb-is yAxis (λ c. c .y) y-part es b,
+      lsb-is zAxis (λ c. c .z) z-part es b,
+      msb-is zAxis (λ c. c .z) z-part es b,
+    )

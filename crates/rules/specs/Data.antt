@@ -1,0 +1,130 @@
+-- 01, "Data channels": what 0x02 to 0x07 show, by looking back over a history of reads of one byte each, whose latest event stands first.
+use Prim.Native.Nat.{ℕ, suc, _+_, _*_, _/_, _%_}
+use mathlib.Core.Bool.{Bool, true, false, not}
+use mathlib.Core.List.{List, [], _∷_}
+use lib.Dec.{eqb}
+use lib.IntN.{ℤ, pos, negsuc, natAbs, _+ℤ_}
+use lib.Signed.{leZ}
+use Rattle.laws.specs.Choice.{pick, both, either}
+use Rattle.laws.specs.Bits.{bit, worth}
+use Rattle.events.specs.Event.{Event, powerUp, write, read, sample, cycle}
+use Rattle.rules.specs.Stored.{isSoftReset, byteBy}
+use Rattle.rules.specs.Back.{someSince, beforeLast}
+
+-- ---- events
+-- power-up or soft reset: "everything as at power-up"
+abbrev pub isStart : Event → Bool
+isStart powerUp = true
+isStart (write a byte) = isSoftReset a byte
+isStart (read a n) = false
+isStart (sample x y z temperature) = false
+isStart cycle = false
+
+-- an accepted sample: "x, y or z outside -2048..2047" is refused
+abbrev pub isInside : ℤ → Bool
+isInside v = both (leZ (negsuc 2047) v) (leZ v (pos 2047))
+
+abbrev pub isSample : Event → Bool
+isSample powerUp = false
+isSample (write a byte) = false
+isSample (read a n) = false
+isSample (sample x y z temperature) = both (isInside x) (both (isInside y) (isInside z))
+isSample cycle = false
+
+-- a read of one byte, at address at
+abbrev pub isRead : ℕ → Event → Bool
+isRead at powerUp = false
+isRead at (write a byte) = false
+isRead at (read a n) = both (eqb a at) (eqb n 1)
+isRead at (sample x y z temperature) = false
+isRead at cycle = false
+
+-- "Writing 0x13 with bit 6 at 1 releases all locks"
+abbrev pub isRelease : Event → Bool
+isRelease powerUp = false
+isRelease (write a byte) = both (eqb a 0x13) (bit 6 byte)
+isRelease (read a n) = false
+isRelease (sample x y z temperature) = false
+isRelease cycle = false
+
+-- ---- the last accepted sample since power-up or soft reset; before any, all is 0
+pub record Values : Type 0 where
+  pub x : ℤ
+  pub y : ℤ
+  pub z : ℤ
+  pub temperature : ℕ
+
+abbrev pub noValues : Values
+noValues = record { x = pos 0; y = pos 0; z = pos 0; temperature = 0 }
+
+abbrev pub valuesOf : Event → Values
+valuesOf powerUp = noValues
+valuesOf (write a byte) = noValues
+valuesOf (read a n) = noValues
+valuesOf (sample x y z temperature) = record { x = x; y = y; z = z; temperature = temperature }
+valuesOf cycle = noValues
+
+abbrev pub lastSample : List Event → Values
+lastSample [] = noValues
+lastSample (e ∷ es) = pick (isStart e) noValues (pick (isSample e) (valuesOf e) (lastSample es))
+
+-- "A sample is 12-bit two's complement"
+abbrev pub twelveBits : ℤ → ℕ
+twelveBits v = natAbs (v +ℤ pos 4096) % 4096
+
+-- ---- an axis: the address of its LSB register, behind which stands its MSB register, and its value in a sample
+pub record Axis : Type 0 where
+  pub lsbAt : ℕ
+  pub value : Values → ℤ
+
+module _ (axis : Axis) where
+  -- the present sample's bits
+  abbrev pub present : List Event → ℕ
+  present es = twelveBits (axis .value (lastSample es))
+
+  -- "A sample sets all three new-data bits"; "Reading an LSB register clears that axis's bit after the byte is given"
+  unfoldable pub newData : List Event → Bool
+  newData es = someSince (λ e h. isSample e) (λ e h. either (isStart e) (isRead (axis .lsbAt) e)) es
+
+  -- "With 0x13 bit 6 at 0 it also locks the MSB to the present sample; reading the LSB again locks anew"
+  abbrev pub locking : Event → List Event → Bool
+  locking e h = both (isRead (axis .lsbAt) e) (not (bit 6 (byteBy h 0x13)))
+
+  -- "Reading the MSB .. unlocks"; "Writing 0x13 with bit 6 at 1 releases all locks"
+  abbrev pub unlocking : Event → List Event → Bool
+  unlocking e h = either (isStart e) (either (isRead (suc (axis .lsbAt)) e) (isRelease e))
+
+  unfoldable pub isLocked : List Event → Bool
+  isLocked es = someSince locking unlocking es
+
+  -- "The LSB register holds its low four bits in 7:4, 0 in 3:1 and the new-data bit in 0"
+  abbrev pub lsbShown : List Event → ℕ
+  lsbShown es = present es % 16 * 16 + worth 1 (newData es)
+
+  -- "the MSB register holds the upper eight"; "Reading the MSB gives the locked byte .., or the present one": where it is locked, that of
+  -- the sample that was the present one when it was last locked
+  abbrev pub msbShown : List Event → ℕ
+  msbShown es = present (pick (isLocked es) (beforeLast locking es) es) / 16
+
+-- 0x02 to 0x07: LSB and MSB of x, y and z
+abbrev pub dataAddresses : List ℕ
+dataAddresses = 0x02 ∷ 0x03 ∷ 0x04 ∷ 0x05 ∷ 0x06 ∷ 0x07 ∷ []
+
+abbrev pub xAxis : Axis
+xAxis = record { lsbAt = 0x02; value = λ v. v .x }
+
+abbrev pub yAxis : Axis
+yAxis = record { lsbAt = 0x04; value = λ v. v .y }
+
+abbrev pub zAxis : Axis
+zAxis = record { lsbAt = 0x06; value = λ v. v .z }
+
+unfoldable pub dataBy : List Event → ℕ → ℕ
+dataBy es a =
+    pick (eqb a 0x02) (lsbShown xAxis es)
+    (pick (eqb a 0x03) (msbShown xAxis es)
+    (pick (eqb a 0x04) (lsbShown yAxis es)
+    (pick (eqb a 0x05) (msbShown yAxis es)
+    (pick (eqb a 0x06) (lsbShown zAxis es)
+    (pick (eqb a 0x07) (msbShown zAxis es)
+    0)))))
