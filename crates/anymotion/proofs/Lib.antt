@@ -1,0 +1,4 @@
+pub mod Split
+pub mod Settings
+pub mod Points
+pub mod Detector

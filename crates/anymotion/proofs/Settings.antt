@@ -1,0 +1,150 @@
+-- What the device goes by is what 01 names: the codes of 0x21, the axes of 0x16, the samples of -2048..2047, and the writes that clear or
+-- forget. Assumes nothing.
+use Prim.Native.Nat.{ℕ, suc, _/_, _%_, _^_}
+use mathlib.Core.Bool.{Bool, true, false, not}
+use mathlib.Core.List.{List, [], _∷_}
+use mathlib.Core.Path.{_≡_, refl, sym, ap, _∙_}
+use native.Mathlib.Omega.{arith}
+use borrow.Author.Tests.{eqb-true, leb-true, leb-false, le-ltb, lt-ltb}
+use lib.Dec.{eqb, leb, ltb, leb·suc-suc}
+use lib.IntN.{ℤ, pos, negsuc}
+use lib.ListN.{getD}
+use Rattle.laws.specs.Choice.{pick, both, either}
+use Rattle.laws.specs.Bits.{bit}
+use Rattle.laws.specs.Lists.{isIn}
+use Rattle.laws.proofs.Finite.{of-pick, alike, left, right}
+use Rattle.codes.specs.Latch.{latchOf, isModelled, isUnlatched}
+use Rattle.codes.specs.declared.Latch.the-variants.{Unlatched, Latched, NotModelled}
+use Rattle.channels.specs.Codes.{inRange}
+use Rattle.slopes.specs.Point.{noAxis}
+use Rattle.table.specs.Rows.{rowAt, merged}
+use Rattle.registers.specs.Answers.{accepted}
+use Rattle.registers.specs.Refused.{writeAnswer}
+use Rattle.registers.specs.Deeds.{restarting, isReset, deedsOf, noDeeds, judgement}
+use Rattle.registers.specs.declared.Answer.the-variants.{Done, OutOfRange}
+use Rattle.registers.specs.declared.Deeds.{Deeds}
+use Rattle.device.specs.Device.{firstBytes}
+use Rattle.device.specs.Sample.{sampleAnswer}
+use Rattle.events.specs.Event.{Event, powerUp, write, read, sample, cycle}
+use Rattle.events.specs.Bank.{bank}
+use Rattle.events.proofs.Runs.{bank-length}
+use Rattle.rules.specs.Proper.{isStored, spared}
+use Rattle.rules.proofs.Writes.{byteWritten, byte-written}
+use Rattle.rules.proofs.Registers.{latch-known}
+use Rattle.anymotion.specs.InForce.{inForce, isTaken, isNonLatched, isLatched, restarts, forgets, fits}
+use Rattle.anymotion.specs.Points.{anyEnabled}
+
+-- ---- 0x21
+module _ (byte : ℕ) where
+  pub latch-is : isUnlatched (latchOf byte) ≡ isIn (0b0000 ∷ 0b1000 ∷ []) (byte % 16)
+  unfolding latchOf
+  latch-is = go (eqb (byte % 16) 0) (eqb (byte % 16) 8) (eqb (byte % 16) 7) (eqb (byte % 16) 15)
+    where
+      go : (a b c d : Bool) → isUnlatched (pick a Unlatched (pick b Unlatched (pick c Latched (pick d Latched NotModelled)))) ≡ either a (either b false)
+      go true b c d = refl
+      go false true c d = refl
+      go false false true d = refl
+      go false false false true = refl
+      go false false false false = refl
+
+  one-latch : isModelled (latchOf byte) ≡ true → isIn (0b0111 ∷ 0b1111 ∷ []) (byte % 16) ≡ not (isIn (0b0000 ∷ 0b1000 ∷ []) (byte % 16))
+  unfolding latchOf
+  one-latch = go (eqb (byte % 16) 0) refl (eqb (byte % 16) 8) refl (eqb (byte % 16) 7) refl (eqb (byte % 16) 15) refl
+    where
+      -- a nibble that is one number is no other
+      only : (k : ℕ) → byte % 16 ≡ k → isIn (0b0111 ∷ 0b1111 ∷ []) k ≡ not (isIn (0b0000 ∷ 0b1000 ∷ []) k) → isIn (0b0111 ∷ 0b1111 ∷ []) (byte % 16) ≡ not (isIn (0b0000 ∷ 0b1000 ∷ []) (byte % 16))
+      only k e h = rw e h
+
+      go : (a : Bool) → eqb (byte % 16) 0 ≡ a → (b : Bool) → eqb (byte % 16) 8 ≡ b → (c : Bool) → eqb (byte % 16) 7 ≡ c → (d : Bool) → eqb (byte % 16) 15 ≡ d
+          → isModelled (pick a Unlatched (pick b Unlatched (pick c Latched (pick d Latched NotModelled)))) ≡ true → isIn (0b0111 ∷ 0b1111 ∷ []) (byte % 16) ≡ not (isIn (0b0000 ∷ 0b1000 ∷ []) (byte % 16))
+      go true e b f c g d h m = only 0 (eqb-true _ 0 e) refl
+      go false e true f c g d h m = only 8 (eqb-true _ 8 f) refl
+      go false e false f true g d h m = only 7 (eqb-true _ 7 g) refl
+      go false e false f false g true h m = only 15 (eqb-true _ 15 h) refl
+      go false e false f false g false h m = let z : _≡_ {A = ℕ} 0 1 = cc in absurd (omega arith)
+
+-- "low nibble 0000 and 1000 non-latched, 0111 and 1111 latched": at any time it is one of the two
+pub latched-or-not : (es : List Event) → isLatched es ≡ not (isNonLatched es)
+latched-or-not es = one-latch (inForce es 0x21) (latch-known es)
+
+-- ---- 0x16
+low-0 : (byte : ℕ) → byte / 2 ^ 0 % 2 ≡ byte % 8 / 2 ^ 0 % 2
+low-0 byte = omega arith
+
+low-1 : (byte : ℕ) → byte / 2 ^ 1 % 2 ≡ byte % 8 / 2 ^ 1 % 2
+low-1 byte = omega arith
+
+low-2 : (byte : ℕ) → byte / 2 ^ 2 % 2 ≡ byte % 8 / 2 ^ 2 % 2
+low-2 byte = omega arith
+
+pub none-enabled : (byte : ℕ) → noAxis byte ≡ not (anyEnabled byte)
+unfolding bit
+none-enabled byte = rw (low-0 byte, low-1 byte, low-2 byte) (alike (λ m. eqb m 0) (λ m. not (anyEnabled m)) 8 refl (byte % 8) (omega arith))
+
+-- ---- -2048..2047
+above-is : (n : ℕ) → ltb 2047 n ≡ not (leb n 2047)
+above-is n = go (leb n 2047) refl
+  where
+    go : (t : Bool) → leb n 2047 ≡ t → ltb 2047 n ≡ not t
+    go true e = let h = leb-true n 2047 e in le-ltb 2047 n h
+    go false e = let h = leb-false n 2047 e in lt-ltb 2047 n h
+
+in-range : (v : ℤ) → inRange v ≡ fits v
+in-range (pos n) = leb·suc-suc n 2047
+in-range (negsuc n) = rw (above-is n) (go (leb n 2047))
+  where
+    go : (t : Bool) → pick (not t) false true ≡ both t true
+    go true = refl
+    go false = refl
+
+pub sample-taken : (x y z : ℤ) → accepted (sampleAnswer x y z) ≡ both (fits x) (both (fits y) (fits z))
+unfolding sampleAnswer
+sample-taken x y z = rw (in-range x, in-range y, in-range z) (go (fits x) (fits y) (fits z))
+  where
+    go : (a b c : Bool) → accepted (pick (either (not a) (either (not b) (not c))) OutOfRange Done) ≡ both a (both b c)
+    go true true true = refl
+    go true true false = refl
+    go true false c = refl
+    go false b c = refl
+
+-- ---- writes
+module _ (es : List Event) (a byte : ℕ) where
+  of-deeds : (f : Deeds → Bool) → f (judgement (bank es) a byte .deeds) ≡ pick (isTaken es a byte) (f (deedsOf (bank es) (rowAt a) a byte)) (f noDeeds)
+  unfolding judgement
+  of-deeds f = of-pick f (isTaken es a byte) (deedsOf (bank es) (rowAt a) a byte) noDeeds
+
+  both-is : (t s : Bool) → pick t s false ≡ both t s
+  both-is true s = refl
+  both-is false s = refl
+
+  pub restarts-is : judgement (bank es) a byte .deeds .restarts ≡ both (isTaken es a byte) (isIn (0x0F ∷ 0x16 ∷ 0x21 ∷ 0x27 ∷ 0x28 ∷ []) a)
+  unfolding deedsOf
+  restarts-is = of-deeds (λ d. d .restarts) ∙ both-is (isTaken es a byte) (isIn restarting a)
+
+  pub forgets-is : judgement (bank es) a byte .deeds .forgets ≡ both (isTaken es a byte) (isIn (0x0F ∷ []) a)
+  unfolding deedsOf
+  forgets-is = of-deeds (λ d. d .forgets) ∙ both-is (isTaken es a byte) (eqb a 0x0F) ∙ ap (λ (t : Bool). both (isTaken es a byte) t) (or-none (eqb a 0x0F))
+    where
+      or-none : (t : Bool) → t ≡ either t false
+      or-none true = refl
+      or-none false = refl
+
+-- what is in force at 0x16, 0x21, 0x27 and 0x28 changes at restarts only
+pub in-force-kept : (es : List Event) (e : Event) → restarts es e ≡ false → (c : ℕ) → isIn (0x0F ∷ 0x16 ∷ 0x21 ∷ 0x27 ∷ 0x28 ∷ []) c ≡ true → inForce (e ∷ es) c ≡ inForce es c
+unfolding bank restarts
+in-force-kept es powerUp h c m = let z : _≡_ {A = ℕ} 0 1 = cc in absurd (omega arith)
+in-force-kept es (write a byte) h c m =
+    byte-written (bank es) (bank-length es) c a byte ∙ go (isReset a byte) refl (both (isStored (bank es) a byte) (eqb c a)) refl h
+  where
+    go : (r : Bool) → isReset a byte ≡ r → (s : Bool) → both (isStored (bank es) a byte) (eqb c a) ≡ s → either r (both (isTaken es a byte) (isIn (0x0F ∷ 0x16 ∷ 0x21 ∷ 0x27 ∷ 0x28 ∷ []) a)) ≡ false
+        → pick r (pick (isIn spared c) (inForce es c) (getD firstBytes c 0)) (pick s (merged (rowAt a) byte) (inForce es c)) ≡ inForce es c
+    go true f s g h = cc
+    go false f true g h =
+        let own : c ≡ a = eqb-true c a (right (isStored (bank es) a byte) (eqb c a) g) in
+        let ok : isTaken es a byte ≡ true = left (isTaken es a byte) _ (left (isStored (bank es) a byte) (eqb c a) g) in
+        let n : isIn (0x0F ∷ 0x16 ∷ 0x21 ∷ 0x27 ∷ 0x28 ∷ []) c ≡ false = rw own (rw ok at h) in
+        cc
+    go false f false g h = refl
+in-force-kept es (read a n) h c m = refl
+in-force-kept es (sample x y z t) h c m = refl
+in-force-kept es cycle h c m = refl

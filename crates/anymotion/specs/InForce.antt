@@ -1,0 +1,75 @@
+-- 01, "Register table" and "Interrupts and pins": what of a history any-motion goes by. Of a history the latest event stands first; an
+-- event e after a history es is the history e ∷ es.
+use Prim.Native.Nat.{ℕ, _+_, _%_}
+use mathlib.Core.Bool.{Bool, true, false}
+use mathlib.Core.List.{List, [], _∷_}
+use lib.Dec.{eqb}
+use lib.IntN.{ℤ, pos, negℤ}
+use lib.Signed.{leZ}
+use Rattle.laws.specs.Choice.{pick, both, either}
+use Rattle.laws.specs.Lists.{isIn}
+use Rattle.registers.specs.Answers.{accepted}
+use Rattle.registers.specs.Refused.{writeAnswer}
+use Rattle.events.specs.Event.{Event, powerUp, write, read, sample, cycle}
+use Rattle.events.specs.Bank.{bank, stored}
+
+-- ---- the registers: the byte that is in force at an address, and whether a write of a byte to an address is accepted
+abbrev pub inForce : List Event → ℕ → ℕ
+inForce es a = stored es a
+
+abbrev pub isTaken : List Event → ℕ → ℕ → Bool
+isTaken es a byte = accepted (writeAnswer (bank es) a byte)
+
+-- "N is 0x27 bits 1:0 plus 1"
+abbrev pub pointsAsked : List Event → ℕ
+pointsAsked es = inForce es 0x27 % 4 + 1
+
+-- "21: low nibble 0000 and 1000 non-latched, 0111 and 1111 latched"
+abbrev pub isNonLatched : List Event → Bool
+isNonLatched es = isIn (0b0000 ∷ 0b1000 ∷ []) (inForce es 0x21 % 16)
+
+abbrev pub isLatched : List Event → Bool
+isLatched es = isIn (0b0111 ∷ 0b1111 ∷ []) (inForce es 0x21 % 16)
+
+-- ---- writes
+-- an accepted write to one of these addresses, after es
+abbrev pub isTakenAt : List ℕ → List Event → Event → Bool
+isTakenAt addresses es powerUp = false
+isTakenAt addresses es (write a byte) = both (isTaken es a byte) (isIn addresses a)
+isTakenAt addresses es (read a n) = false
+isTakenAt addresses es (sample x y z temperature) = false
+isTakenAt addresses es cycle = false
+
+-- power-up, and "14: 0xB6 is a soft reset: everything as at power-up"
+abbrev pub startsAnew : Event → Bool
+startsAnew powerUp = true
+startsAnew (write a byte) = both (eqb a 0x14) (eqb byte 0xB6)
+startsAnew (read a n) = false
+startsAnew (sample x y z temperature) = false
+startsAnew cycle = false
+
+-- "An accepted write to 0x0F, 0x16, 0x21, 0x27 or 0x28 clears status, marks and runs"
+unfoldable pub restarts : List Event → Event → Bool
+restarts es e = either (startsAnew e) (isTakenAt (0x0F ∷ 0x16 ∷ 0x21 ∷ 0x27 ∷ 0x28 ∷ []) es e)
+
+-- "0x0F also forgets the previous sample"
+unfoldable pub forgets : List Event → Event → Bool
+forgets es e = either (startsAnew e) (isTakenAt (0x0F ∷ []) es e)
+
+-- ---- samples
+pub record Signed : Type 0 where
+  pub x : ℤ
+  pub y : ℤ
+  pub z : ℤ
+
+-- -2048..2047; what lies outside is refused 4
+abbrev pub fits : ℤ → Bool
+fits v = both (leZ (negℤ (pos 2048)) v) (leZ v (pos 2047))
+
+-- the sample that an event brings, where it is accepted
+abbrev pub brings : Event → List Signed
+brings powerUp = []
+brings (write a byte) = []
+brings (read a n) = []
+brings (sample x y z temperature) = pick (both (fits x) (both (fits y) (fits z))) (record { x = x; y = y; z = z } ∷ []) []
+brings cycle = []

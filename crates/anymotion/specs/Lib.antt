@@ -1,0 +1,4 @@
+pub mod InForce
+pub mod Points
+pub mod Status
+pub mod Marks

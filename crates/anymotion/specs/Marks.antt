@@ -1,0 +1,41 @@
+-- 01, "Interrupts and pins", any-motion: the marks and the sign, of the points that set the status.
+use Prim.Native.Nat.{ℕ, _+_, _^_}
+use mathlib.Core.Bool.{Bool, false, not}
+use mathlib.Core.List.{List, [], _∷_, _++_}
+use lib.IntN.{pos}
+use lib.Signed.{ltZ}
+use Rattle.laws.specs.Choice.{pick, both}
+use Rattle.laws.specs.Bits.{worth}
+use Rattle.events.specs.Event.{Event}
+use Rattle.anymotion.specs.InForce.{startsAnew}
+use Rattle.anymotion.specs.Points.{Axis, OverAxes, points}
+use Rattle.anymotion.specs.Status.{isSet}
+
+-- the event e sets the status; "A status already set is not set again"
+unfoldable pub sets : List Event → Event → Bool
+sets es e = both (not (isSet es)) (isSet (e ∷ es))
+
+-- "the first over axis (x before y before z)" at the latest point
+abbrev pub firstAxis : List OverAxes → List Axis
+firstAxis [] = []
+firstAxis ([] ∷ ps) = []
+firstAxis ((a ∷ axes) ∷ ps) = a ∷ []
+
+-- the axes that were marked on the settings since power-up or soft reset, the latest first
+unfoldable pub markedAxes : List Event → List Axis
+markedAxes [] = []
+markedAxes (e ∷ es) = pick (startsAnew e) [] (pick (sets es e) (firstAxis (points (e ∷ es)) ++ markedAxes es) (markedAxes es))
+
+-- "0x0B bits 2:0 (z, y, x) mark" the latest of them
+abbrev pub markOf : List Axis → ℕ
+markOf [] = 0
+markOf (a ∷ axes) = 2 ^ (a .place)
+
+-- "bit 3 is 1 for a negative difference"
+abbrev pub signOf : List Axis → Bool
+signOf [] = false
+signOf (a ∷ axes) = ltZ (a .difference) (pos 0)
+
+-- the byte of 0x0B: "The marks clear with the status; bit 3 stays until the next setting or soft reset"
+unfoldable pub marksByte : List Event → ℕ
+marksByte es = pick (isSet es) (markOf (markedAxes es)) 0 + worth 8 (signOf (markedAxes es))
