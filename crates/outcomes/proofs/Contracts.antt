@@ -13,7 +13,7 @@ use lib.ListN.{length}
 use Rattle.laws.specs.Refusals.{due}
 use Rattle.registers.specs.Answers.{number}
 use Rattle.registers.specs.Refused.{writeRows, readRows}
-use Rattle.registers.specs.Table.{rowAt}
+use Rattle.table.specs.Rows.{rowAt}
 use Rattle.device.specs.Sample.{sampleRows}
 use Rattle.device.proofs.Device.write as write
 use Rattle.device.proofs.Device.write.Reads as write-reads
@@ -26,7 +26,7 @@ use Rattle.device.proofs.Device.start_cycle.Reads as cycle-reads
 use Rattle.outcomes.proofs.Refusals.{write-exactly, read-exactly, sample-exactly, cycle-done, write-unchanged, read-unchanged, sample-unchanged}
 
 pub write-tabled : (κs : Lfts 0) (a : Args write.signature κs) (r : Res write.signature κs) (e : AtExit write.ended κs) → write-reads.Learnt κs a r e
-    → ((n : ℕ) → eqb n (number (r .answer)) ≡ due number (writeRows (rowAt (a .1 .0)) (a .1 .0) (a .1 .1 .0)) n) × (number (r .answer) ≢ 0 → r .device ≡ a .0)
+    → ((n : ℕ) → eqb n (number (r .answer)) ≡ due number (writeRows (a .0 .regs) (rowAt (a .1 .0)) (a .1 .0) (a .1 .1 .0)) n) × (number (r .answer) ≢ 0 → r .device ≡ a .0)
 write-tabled κs a r e p = rw p (write-exactly (a .0) (a .1 .0) (a .1 .1 .0), write-unchanged (a .0) (a .1 .0) (a .1 .1 .0))
 
 pub read-tabled : (κs : Lfts 1) (a : Args read.signature κs) (r : Res read.signature κs) (e : AtExit read.ended κs) → read-reads.Learnt κs a r e

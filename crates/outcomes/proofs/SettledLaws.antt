@@ -6,12 +6,17 @@ use Rattle.laws.proofs.Outcome.{settles, meet}
 use Rattle.laws.proofs.bit as bit
 use Rattle.laws.proofs.both as both
 use Rattle.laws.proofs.least as least
+use Rattle.laws.proofs.move_forward as move-forward
+use Rattle.outcomes.proofs.Plain.{plain}
 
 bit-settled : Settled bit.ended (λ M. bit.clauses) (λ M. bit.spec)
-bit-settled = settles (λ κs a r r′ s s′ p q. (meet p q, refl))
+bit-settled = plain (λ κs a s s′. refl)
 
 both-settled : Settled both.ended (λ M. both.clauses) (λ M. both.spec)
-both-settled = settles (λ κs a r r′ s s′ p q. (meet p q, refl))
+both-settled = plain (λ κs a s s′. refl)
 
 least-settled : Settled least.ended (λ M. least.clauses) (λ M. least.spec)
-least-settled = settles (λ κs a r r′ s s′ p q. (meet p q, refl))
+least-settled = plain (λ κs a s s′. refl)
+
+move-forward-settled : Settled move-forward.ended (λ M. move-forward.clauses) (λ M. move-forward.spec)
+move-forward-settled = settles (λ κs a r r′ s s′ p q. (meet (p .0) (q .0), λ i. (meet (p .1) (q .1) i, (tt, (tt, tt)))))

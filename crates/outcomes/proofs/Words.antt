@@ -17,11 +17,12 @@ use Rattle.laws.specs.Table.{upFrom}
 use Rattle.laws.proofs.Refusals.{ways}
 use Rattle.laws.proofs.Table.{entry}
 use Rattle.channels.specs.Codes.{inRange}
-use Rattle.fifo.specs.Codes.{modeOf}
-use Rattle.registers.specs.Codes.{rangeOf, latchOfNibble}
+use Rattle.codes.specs.Latch.{latchOf}
+use Rattle.codes.specs.Mode.{modeOf}
+use Rattle.codes.specs.Range.{rangeOf}
 use Rattle.registers.specs.Refused.{reservedCode, notModelled}
-use Rattle.registers.specs.Table.{rowAt, rowOf, lineOf, lacking as bits}
-use Rattle.outcomes.specs.Numbers.{reserved, lacking, Outside}
+use Rattle.table.specs.Rows.{rowAt, rowOf, lineOf, listed, refusedBits, reservedAddresses}
+use Rattle.outcomes.specs.Numbers.{isReservedWrite, isUnmodelledWrite, Outside}
 
 no : {X : Type 0} → false ≡ true → X
 no e = let z : _≡_ {A = ℕ} 0 1 = cc in absurd (omega arith)
@@ -60,7 +61,7 @@ pub or : {b c : Bool} {P Q : Type 0} → Means b P → Means c Q → Means (eith
 or {b = true} p q = (λ e. inl (p .0 refl), λ h. refl)
 or {b = false} p q = (λ e. inr (q .0 e), ⊎-elim (λ x. no (p .1 x)) (q .1))
 
--- ---- 2 and 3: by computation, at each address and byte
+-- ---- 2 and 3: by computation, at each address and byte, whatever the registers hold
 everywhere : (f g : ℕ → ℕ → Bool) → upFrom (λ a. upFrom (f a) 0 256) 0 64 ≡ upFrom (λ a. upFrom (g a) 0 256) 0 64
     → (a b : ℕ) → a < 64 → b < 256 → f a b ≡ g a b
 everywhere f g e a b h k =
@@ -68,13 +69,13 @@ everywhere f g e a b h k =
     sym (entry (λ c. upFrom (f c) 0 256) [] 64 a h) ∙ ap (λ (l : List (List Bool)). getD l a []) e ∙ entry (λ c. upFrom (g c) 0 256) [] 64 a h in
     sym (entry (f a) false 256 b k) ∙ ap (λ (l : List Bool). getD l b false) row ∙ entry (g a) false 256 b k
 
-pub reserved-is : (a b : ℕ) → a < 64 → b < 256 → reservedCode a b ≡ reserved a b
-unfolding reservedCode rangeOf modeOf reserved
-reserved-is = everywhere reservedCode reserved refl
+pub reserved-is : (regs : List ℕ) (a b : ℕ) → a < 64 → b < 256 → reservedCode regs a b ≡ isReservedWrite a b
+unfolding reservedCode rangeOf modeOf isReservedWrite
+reserved-is regs = everywhere (reservedCode regs) isReservedWrite refl
 
-pub lacking-is : (a b : ℕ) → a < 64 → b < 256 → notModelled (rowAt a) a b ≡ lacking a b
-unfolding notModelled rowAt rowOf lineOf bits latchOfNibble lacking bit
-lacking-is = everywhere (λ a b. notModelled (rowAt a) a b) lacking refl
+pub unmodelled-is : (regs : List ℕ) (a b : ℕ) → a < 64 → b < 256 → notModelled regs (rowAt a) a b ≡ isUnmodelledWrite a b
+unfolding notModelled rowAt rowOf lineOf listed refusedBits reservedAddresses latchOf isUnmodelledWrite bit
+unmodelled-is regs = everywhere (λ a b. notModelled regs (rowAt a) a b) isUnmodelledWrite refl
 
 -- ---- 4
 above : (n : ℕ) (t : Bool) → ltb n 2048 ≡ t → not t ≡ ltb 2047 n

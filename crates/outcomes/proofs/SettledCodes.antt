@@ -1,0 +1,37 @@
+-- Each public function of codes: its contract, as its source states it, asks nothing of a call and leaves one outcome.
+-- Assumes nothing.
+use mathlib.Core.Path.{refl}
+use Rattle.laws.specs.Outcome.{Settled}
+use Rattle.codes.proofs.range_of as range-of
+use Rattle.codes.proofs.is_reserved_range as is-reserved-range
+use Rattle.codes.proofs.latch_of as latch-of
+use Rattle.codes.proofs.is_modelled as is-modelled
+use Rattle.codes.proofs.is_unlatched as is-unlatched
+use Rattle.codes.proofs.mode_of as mode-of
+use Rattle.codes.proofs.is_reserved_mode as is-reserved-mode
+use Rattle.codes.proofs.axes_of as axes-of
+use Rattle.outcomes.proofs.Plain.{plain}
+
+range-of-settled : Settled range-of.ended (λ M. range-of.clauses) (λ M. range-of.spec)
+range-of-settled = plain (λ κs a s s′. refl)
+
+is-reserved-range-settled : Settled is-reserved-range.ended (λ M. is-reserved-range.clauses) (λ M. is-reserved-range.spec)
+is-reserved-range-settled = plain (λ κs a s s′. refl)
+
+latch-of-settled : Settled latch-of.ended (λ M. latch-of.clauses) (λ M. latch-of.spec)
+latch-of-settled = plain (λ κs a s s′. refl)
+
+is-modelled-settled : Settled is-modelled.ended (λ M. is-modelled.clauses) (λ M. is-modelled.spec)
+is-modelled-settled = plain (λ κs a s s′. refl)
+
+is-unlatched-settled : Settled is-unlatched.ended (λ M. is-unlatched.clauses) (λ M. is-unlatched.spec)
+is-unlatched-settled = plain (λ κs a s s′. refl)
+
+mode-of-settled : Settled mode-of.ended (λ M. mode-of.clauses) (λ M. mode-of.spec)
+mode-of-settled = plain (λ κs a s s′. refl)
+
+is-reserved-mode-settled : Settled is-reserved-mode.ended (λ M. is-reserved-mode.clauses) (λ M. is-reserved-mode.spec)
+is-reserved-mode-settled = plain (λ κs a s s′. refl)
+
+axes-of-settled : Settled axes-of.ended (λ M. axes-of.clauses) (λ M. axes-of.spec)
+axes-of-settled = plain (λ κs a s s′. refl)
