@@ -143,7 +143,7 @@ module _ {A : Type 0} (s : Setting) (some-deep : s .drops ≡ Oldest → 1 ≤ s
       ⊎-elim (λ p. takes-taken a k i ms p)
       (⊎-elim (λ p.
       let g = held-stays later p in
-      let w : ahead s earlier a later < k = first-reached (s .size) one (ahead s earlier a later) n .1 (rw (g .1) at fi) in
+      let w : ahead s earlier a later < k = first-reached (s .size) one (ahead s earlier a later) n .1 (omega (arith, rw (g .1) at fi)) in
       takes-held a k i ms p ∙ rw (lt-ltb (ahead s earlier a later) k w))
       (λ p. absurd (away (s .drops) refl p)))
       (marked later)
@@ -178,7 +178,7 @@ module _ {A : Type 0} (s : Setting) (some-deep : s .drops ≡ Oldest → 1 ≤ s
             split = refl;
             enter = ⊎-elim (λ h. h) (λ h. cc) (enters-or later);
             stays = g .0;
-            first = rw (g .1) f;
+            first = rw (g .1) (omega (arith, f));
           }
       go false e w = let z : _≡_ {A = ℕ} 0 1 = cc in absurd (omega arith)
 
