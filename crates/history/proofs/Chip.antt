@@ -21,7 +21,7 @@ use Rattle.fifo.proofs.Conserve.{InOrder, none-held, settled-none, in-order, co
 use Rattle.fifo.proofs.Meaning.{Framed, framed-empty, framed-pushed, framed-without, first-taken}
 use Rattle.history.specs.Chip.{Said, cleared, sampled, readOut, nothing, Chip, Twin, onto, since}
 use Rattle.history.specs.Counts.{begun, heldAfter}
-use Rattle.history.specs.Demand.{notLost, Readout, readouts, framesOf, bytesOf, fates, gave, dueStatus, Demand3}
+use Rattle.history.specs.Demand.{notLost, Readout, readouts, framesOf, dueBytes, fates, gave, dueStatus, Demand3}
 use Rattle.history.proofs.Counts.{begun-reached, held-counted}
 use Rattle.history.proofs.Lost.{lost-in}
 use Rattle.history.proofs.Taken.{taken-in}
@@ -113,13 +113,13 @@ module _ (c : Chip) (t : Twin c) (law : Lawful c) (follows : Follows c t) where
       ∙ rw (begun-reached (s .size) (law .one es) n, conserved s (law .some-deep es) (since c es) .frames)
 
   -- the bytes that the readouts gave
-  gives : (es : List (c .Event)) → gave c t es ≡ map bytesOf (readouts (c .setting es) (since c es))
+  gives : (es : List (c .Event)) → gave c t es ≡ map dueBytes (readouts (c .setting es) (since c es))
   unfolding gave since readouts
   gives [] = refl
   gives (e ∷ es) = go (c .says es e) refl (gives es) (out-given es e)
     where
       Gives : List (c .Event) → Type 0
-      Gives es = gave c t es ≡ map bytesOf (readouts (c .setting es) (since c es))
+      Gives es = gave c t es ≡ map dueBytes (readouts (c .setting es) (since c es))
 
       go : (w : Said) → c .says es e ≡ w → Gives es
           → ((n : ℕ) → c .says es e ≡ readOut n → t es 0x3F n ≡ firstOrZeros n (flat (take (begun (c .setting es .size) n) (heldOf (marks (c .setting es) (since c es))))))

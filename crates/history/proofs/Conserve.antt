@@ -43,7 +43,9 @@ use Rattle.history.specs.Chip.{Said, cleared, sampled, readOut, nothing,
 use Rattle.history.specs.Demand.{fates, Demand3}
 use Rattle.history.specs.History.{readsOut, control, setting, frame, saysHere, accelerometer, twin, LostIn, Demand3Here}
 use Rattle.history.specs.Lost.{LostBy}
+use Rattle.history.specs.Whole.{OverClears}
 use Rattle.history.proofs.Chip.{isCleared, Lawful, Follows, conserves}
+use Rattle.history.proofs.Whole.{over-clears}
 use Rattle.history.proofs.Told.{Holds, frame-long, queueAt, told, deep}
 
 -- ---- a device that holds a queue
@@ -149,6 +151,9 @@ demand3 es =
       lost = λ later earlier f e. Iff·trans (d .lost later earlier f e) (lost-here (modeOf (control es)) (axesOf (control es)) (told es .mode) earlier f later);
       few = omega (arith, d .few, depth-most deep (modeOf (control es)));
     }
+
+pub over-clears-here : (es : List Event) → OverClears accelerometer es
+over-clears-here = over-clears accelerometer lawful
 
 -- the frames that the device holds are those of the held samples, the oldest first
 pub device-holds : (es : List Event) → flatOf (after es) ≡ packed room (record { frames = heldOf (fates accelerometer es); overrun = ltb 0 (length (lostOf (fates accelerometer es))) })

@@ -10,6 +10,7 @@ use native.Mathlib.Omega.{arith}
 use lib.Dec.{eqb, ltb}
 use lib.ListN.{length, drop, length-append, length-drop}
 use borrow.Author.Tests.{eqb-true, eqb-false, ltb-true, ltb-false}
+use Rattle.laws.specs.Bits.{worth}
 use Rattle.fifo.specs.Ledger.{Event, sample, readout, heldIn, marks, run}
 use Rattle.fifo.specs.Queue.{Queue, reached, pushed}
 use Rattle.fifo.specs.declared.Drop.{Drop}
@@ -32,15 +33,15 @@ module _ (size : ℕ) (one : 1 ≤ size) where
       next : reached size (suc n) ≡ n / size + 1
       next = let e : suc n + (size - 1) ≡ n + size = omega arith in ap (λ (m : ℕ). m / size) e ∙ add-div-right n one
 
-      go : (t : Bool) → eqb (n % size) 0 ≡ t → begun size n ≡ reached size n → begun size (suc n) ≡ reached size (suc n)
+      go : (t : Bool) → eqb (n % size) 0 ≡ t → begun size n ≡ reached size n → worth 1 t + begun size n ≡ reached size (suc n)
       go true e i =
           let z : n % size ≡ 0 = eqb-true (n % size) 0 e in
           let w : reached size n ≡ n / size = div-eq-of-lt-le size (omega (arith, divided)) (omega (arith, divided)) in
-          rw e (omega (arith, i, w, next))
+          omega (arith, i, w, next)
       go false e i =
           let z : 1 ≤ n % size = omega (arith, eqb-false (n % size) 0 e) in
           let w : reached size n ≡ n / size + 1 = div-eq-of-lt-le size (omega (arith, divided)) (omega (arith, divided, mod-lt n one)) in
-          rw e (omega (arith, i, w, next))
+          omega (arith, i, w, next)
 
   -- a frame with k before it is reached when its first byte is
   pub first-reached : (k n : ℕ) → (k < reached size n) ↔ (k * size < n)

@@ -17,7 +17,7 @@ use Rattle.fifo.specs.declared.Drop.{Drop}
 use Rattle.fifo.specs.declared.Drop.the-variants.{Newcomer, Oldest}
 use Rattle.fifo.specs.declared.Setting.{Setting}
 use Rattle.fifo.proofs.Conserve.{in-order}
-use Rattle.history.specs.Counts.{arrivals, enters, heldAfter, entered, left}
+use Rattle.history.specs.Counts.{arrivals, enters, heldAfter, entered, gone}
 use Rattle.history.specs.Lost.{upTo, frameNumber, Reached}
 use Rattle.history.proofs.Counts.{held-counted, first-reached}
 use Rattle.history.proofs.Marks.{takes-lost, takes-taken, takes-held, enteredIn, held-entered, entered-takes, drop-takes, held-place, away-place, arrives-new, arrives-taken, arrives-lost, arrives-held, arrives-entered, arrives-older}
@@ -42,8 +42,8 @@ module _ {A : Type 0} (s : Setting) (earlier : List (Event A)) (a : A) where
   abbrev marksAt : List (Event A) → List (Mark A)
   marksAt later = marks s (upTo s earlier a later)
 
-  abbrev leftAt : List (Event A) → ℕ
-  leftAt later = left s (upTo s earlier a later)
+  abbrev goneAt : List (Event A) → ℕ
+  goneAt later = gone s (upTo s earlier a later)
 
   -- the held that are older than it
   abbrev ahead : List (Event A) → ℕ
@@ -61,7 +61,7 @@ module _ {A : Type 0} (s : Setting) (some-deep : s .drops ≡ Oldest → 1 ≤ s
 
   -- where it stands: its number, and that of the oldest held
   module _ (later : List (Event A)) where
-    held-stays : fate s earlier a later ≡ some (held a) → (leftAt s earlier a later ≤ frameNumber s earlier a) × (frameNumber s earlier a - leftAt s earlier a later ≡ ahead s earlier a later)
+    held-stays : fate s earlier a later ≡ some (held a) → (goneAt s earlier a later ≤ frameNumber s earlier a) × (frameNumber s earlier a - goneAt s earlier a later ≡ ahead s earlier a later)
     held-stays p =
         let ms = marksAt s earlier a later in
         let g = held-place (s .drops) a (arrivals later) ms (in-order s some-deep (upTo s earlier a later)) p in
@@ -71,8 +71,8 @@ module _ {A : Type 0} (s : Setting) (some-deep : s .drops ≡ Oldest → 1 ≤ s
         let l = held-entered (s .drops) ms in
         (omega (arith, g .0, e, h, o, l), omega (arith, g .0, e, h, o, l))
 
-    lost-left : s .drops ≡ Oldest → fate s earlier a later ≡ some (lost a) → frameNumber s earlier a < leftAt s earlier a later
-    lost-left f p =
+    lost-gone : s .drops ≡ Oldest → fate s earlier a later ≡ some (lost a) → frameNumber s earlier a < goneAt s earlier a later
+    lost-gone f p =
         let ms = marksAt s earlier a later in
         let g = away-place (s .drops) (lost a) (arrivals later) ms (in-order s some-deep (upTo s earlier a later)) p (rw f) in
         omega (arith, g, entered-counted s some-deep one (upTo s earlier a later), held-counted s some-deep one (upTo s earlier a later), older-counted later)
@@ -137,13 +137,13 @@ module _ {A : Type 0} (s : Setting) (some-deep : s .drops ≡ Oldest → 1 ≤ s
   }
 
   -- a readout of n bytes takes it when it is held and its first byte is among them
-  now-taken : (n : ℕ) (later : List (Event A)) → enters (s .drops) (s .depth) (heldAfter s earlier) ≡ true → leftAt s earlier a later ≤ frameNumber s earlier a
-      → (frameNumber s earlier a - leftAt s earlier a later) * s .size < n → fate s earlier a (readout n ∷ later) ≡ some (taken a)
+  now-taken : (n : ℕ) (later : List (Event A)) → enters (s .drops) (s .depth) (heldAfter s earlier) ≡ true → goneAt s earlier a later ≤ frameNumber s earlier a
+      → (frameNumber s earlier a - goneAt s earlier a later) * s .size < n → fate s earlier a (readout n ∷ later) ≡ some (taken a)
   now-taken n later e st fi =
       ⊎-elim (λ p. takes-taken a k i ms p)
       (⊎-elim (λ p.
       let g = held-stays later p in
-      let w : ahead s earlier a later < k = first-reached (s .size) one (ahead s earlier a later) n .1 (rw (g .1) at fi) in
+      let w : ahead s earlier a later < k = first-reached (s .size) one (ahead s earlier a later) n .1 (omega (arith, rw (g .1) at fi)) in
       takes-held a k i ms p ∙ rw (lt-ltb (ahead s earlier a later) k w))
       (λ p. absurd (away (s .drops) refl p)))
       (marked later)
@@ -159,7 +159,7 @@ module _ {A : Type 0} (s : Setting) (some-deep : s .drops ≡ Oldest → 1 ≤ s
 
       away : (r : Drop) → s .drops ≡ r → fate s earlier a later ≡ some (lost a) → ⊥
       away Newcomer f p = kept f e later p
-      away Oldest f p = omega (arith, lost-left later f p)
+      away Oldest f p = omega (arith, lost-gone later f p)
 
   reached-now : (n : ℕ) (later : List (Event A)) → fate s earlier a later ≡ some (held a) → fate s earlier a (readout n ∷ later) ≡ some (taken a) → Reached s earlier a (readout n ∷ later)
   reached-now n later p q = go (ltb (ahead s earlier a later) k) refl (takes-held a k (arrivals later) (marksAt s earlier a later) p)
@@ -178,7 +178,7 @@ module _ {A : Type 0} (s : Setting) (some-deep : s .drops ≡ Oldest → 1 ≤ s
             split = refl;
             enter = ⊎-elim (λ h. h) (λ h. cc) (enters-or later);
             stays = g .0;
-            first = rw (g .1) f;
+            first = rw (g .1) (omega (arith, f));
           }
       go false e w = let z : _≡_ {A = ℕ} 0 1 = cc in absurd (omega arith)
 
@@ -193,7 +193,7 @@ module _ {A : Type 0} (s : Setting) (some-deep : s .drops ≡ Oldest → 1 ≤ s
       (marked later)
 
   is-taken : (later rest before : List (Event A)) (n : ℕ) → later ≡ rest ++ (readout n ∷ before) → enters (s .drops) (s .depth) (heldAfter s earlier) ≡ true
-      → leftAt s earlier a before ≤ frameNumber s earlier a → (frameNumber s earlier a - leftAt s earlier a before) * s .size < n → fate s earlier a later ≡ some (taken a)
+      → goneAt s earlier a before ≤ frameNumber s earlier a → (frameNumber s earlier a - goneAt s earlier a before) * s .size < n → fate s earlier a later ≡ some (taken a)
   is-taken [] [] before n p e st fi = let z : _≡_ {A = ℕ} 0 1 = cc in absurd (omega arith)
   is-taken [] (x ∷ rest) before n p e st fi = let z : _≡_ {A = ℕ} 0 1 = cc in absurd (omega arith)
   is-taken (x ∷ later) [] before n p e st fi = ap (fate s earlier a) p ∙ now-taken n before e st fi

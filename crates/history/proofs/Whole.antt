@@ -66,6 +66,36 @@ module _ (s : Setting) (deep : s .drops ≡ Oldest → 1 ≤ s .depth) (one : 1 
     unfolding heldAfter
     lost-readout n = omega (arith, add-up es, add-up (ledger.readout n ∷ es), taken-readout n)
 
+-- what an event that does not clear adds to totals n, it adds to the span es
+record Grew (s : Setting) (es : List (ledger.Event (List ℕ))) (n m : Totals) (w : Said) : Type 0 where
+  taken : m .taken + takenIn s es ≡ n .taken + takenIn s (onto w es)
+  lost : m .lost + lostIn s es ≡ n .lost + lostIn s (onto w es)
+  clearedAway : m .clearedAway ≡ n .clearedAway
+  whole : m .accepted + n .taken + heldAfter s es + n .lost ≡ n .accepted + m .taken + heldAfter s (onto w es) + m .lost
+
+grew : (s : Setting) → (s .drops ≡ Oldest → 1 ≤ s .depth) → 1 ≤ s .size → (es : List (ledger.Event (List ℕ))) (n : Totals) (w : Said) → isCleared w ≡ false
+    → Grew s es n (totalled s (heldAfter s es) w n) w
+unfolding heldAfter
+grew s deep one es n cleared o = let z : _≡_ {A = ℕ} 0 1 = cc in absurd (omega arith)
+grew s deep one es n (sampled f) o = record {
+  taken = omega (arith, taken-sample s deep one es f);
+  lost = omega (arith, lost-sample s deep one es f);
+  clearedAway = refl;
+  whole = go (eqb (heldAfter s es) (s .depth)) refl;
+}
+  where
+    go : (t : Bool) → eqb (heldAfter s es) (s .depth) ≡ t
+        → suc (n .accepted) + n .taken + heldAfter s es + n .lost ≡ n .accepted + n .taken + min (s .depth) (suc (heldAfter s es)) + (n .lost + worth 1 (eqb (heldAfter s es) (s .depth)))
+    go true e = rw e (omega (arith, eqb-true (heldAfter s es) (s .depth) e))
+    go false e = rw e (omega (arith, eqb-false (heldAfter s es) (s .depth) e, few s deep one es))
+grew s deep one es n (readOut b) o = record {
+  taken = omega (arith, taken-readout s deep one es b);
+  lost = omega (arith, lost-readout s deep one es b);
+  clearedAway = refl;
+  whole = omega arith;
+}
+grew s deep one es n nothing o = record { taken = refl; lost = refl; clearedAway = refl; whole = refl }
+
 -- ---- one more event
 module _ (c : Chip) (es : List (c .Event)) (e : c .Event) (w : Said) (q : c .says es e ≡ w) where
   next-totals : totals c (e ∷ es) ≡ totalled (c .setting es) (heldNow c es) w (totals c es)
@@ -89,6 +119,13 @@ module _ (c : Chip) (es : List (c .Event)) (e : c .Event) (w : Said) (q : c .say
     next-held : heldNow c (e ∷ es) ≡ heldAfter s (onto w (since c es))
     next-held = (λ i. heldAfter (same i) (next-since i))
 
+same-ends : (c : Chip) (kind : List (Mark (List ℕ)) → List (List ℕ)) (w : Said) (es : List (c .Event)) → isCleared w ≡ false
+    → sum (map (λ h. length (kind (fates c h))) (andBefore w es (endings c es))) ≡ atEnds c kind es
+same-ends c kind cleared es o = cc
+same-ends c kind (sampled f) es o = refl
+same-ends c kind (readOut n) es o = refl
+same-ends c kind nothing es o = refl
+
 module _ (c : Chip) (law : Lawful c) where
   held-is : (es : List (c .Event)) → heldNow c es ≡ length (heldOf (fates c es))
   unfolding fates
@@ -97,9 +134,9 @@ module _ (c : Chip) (law : Lawful c) where
       held-counted (c .setting es) (law .some-deep es) (law .one es) (since c es) ∙ sym (g .count) ∙ ap length (g .frames)
 
   module _ (es : List (c .Event)) (e : c .Event) (i : OverClears c es) where
-    step : (w : Said) → c .says es e ≡ w → OverClears c (e ∷ es)
-    unfolding heldAfter fates
-    step cleared q =
+    after-clear : c .says es e ≡ cleared → OverClears c (e ∷ es)
+    unfolding heldAfter
+    after-clear q =
         let t = next-totals c es e cleared q in
         let ends = next-ends c es e cleared q in
         let f = next-fates c es e cleared q (c .setting (e ∷ es)) refl in
@@ -111,58 +148,30 @@ module _ (c : Chip) (law : Lawful c) where
           held = held-is (e ∷ es);
           clearedAway = omega (arith, i .clearedAway, i .held, ap (λ n. n .clearedAway) t, ends heldOf);
         }
-    step (sampled x) q =
-        let s = c .setting es in
-        let t = next-totals c es e (sampled x) q in
-        let ends = next-ends c es e (sampled x) q in
-        let f = next-fates c es e (sampled x) q s (law .keeps es e (rw q)) in
-        let h = next-held c es e (sampled x) q s (law .keeps es e (rw q)) in
-        let k = taken-sample s (law .some-deep es) (law .one es) (since c es) x in
-        let l = lost-sample s (law .some-deep es) (law .one es) (since c es) x in
+
+    after-others : (w : Said) → c .says es e ≡ w → isCleared w ≡ false → OverClears c (e ∷ es)
+    unfolding fates
+    after-others w q o =
+        let same = law .keeps es e (rw q o) in
+        let t = next-totals c es e w q in
+        let ends = next-ends c es e w q in
+        let f = next-fates c es e w q (c .setting es) same in
+        let h = next-held c es e w q (c .setting es) same in
+        let g = grew (c .setting es) (law .some-deep es) (law .one es) (since c es) (totals c es) w o in
+        let k : (kind : List (Mark (List ℕ)) → List (List ℕ)) → atEnds c kind (e ∷ es) ≡ atEnds c kind es = λ kind. ends kind ∙ same-ends c kind w es o in
         record {
-          whole = one-more (ap (λ n. n .accepted) t) (ap (λ n. n .taken) t) (ap (λ n. n .lost) t) (ap (λ n. n .clearedAway) t) h (eqb (heldNow c es) (s .depth)) refl;
-          taken = omega (arith, i .taken, ap (λ n. n .taken) t, ends takenOf, ap (λ m. length (takenOf m)) f, k);
-          lost = omega (arith, i .lost, ap (λ n. n .lost) t, ends lostOf, ap (λ m. length (lostOf m)) f, l);
+          whole = omega (arith, i .whole, g .whole, ap (λ n. n .accepted) t, ap (λ n. n .taken) t, ap (λ n. n .lost) t, ap (λ n. n .clearedAway) t, h);
+          taken = omega (arith, i .taken, g .taken, ap (λ n. n .taken) t, k takenOf, ap (λ m. length (takenOf m)) f);
+          lost = omega (arith, i .lost, g .lost, ap (λ n. n .lost) t, k lostOf, ap (λ m. length (lostOf m)) f);
           held = held-is (e ∷ es);
-          clearedAway = omega (arith, i .clearedAway, ap (λ n. n .clearedAway) t, ends heldOf);
+          clearedAway = omega (arith, i .clearedAway, g .clearedAway, ap (λ n. n .clearedAway) t, k heldOf);
         }
-      where
-        one-more : {a b d m n : ℕ} → a ≡ suc (totals c es .accepted) → b ≡ totals c es .taken → d ≡ totals c es .lost + worth 1 (eqb (heldNow c es) (c .setting es .depth)) → m ≡ totals c es .clearedAway
-            → n ≡ min (c .setting es .depth) (suc (heldNow c es)) → (full : Bool) → eqb (heldNow c es) (c .setting es .depth) ≡ full → a ≡ b + n + d + m
-        one-more pa pb pd pm pn true p =
-            let pd′ = rw p at pd in
-            omega (arith, i .whole, eqb-true (heldNow c es) (c .setting es .depth) p)
-        one-more pa pb pd pm pn false p =
-            let pd′ = rw p at pd in
-            omega (arith, i .whole, eqb-false (heldNow c es) (c .setting es .depth) p, few (c .setting es) (law .some-deep es) (law .one es) (since c es))
-    step (readOut b) q =
-        let s = c .setting es in
-        let t = next-totals c es e (readOut b) q in
-        let ends = next-ends c es e (readOut b) q in
-        let f = next-fates c es e (readOut b) q s (law .keeps es e (rw q)) in
-        let h = next-held c es e (readOut b) q s (law .keeps es e (rw q)) in
-        let k = taken-readout s (law .some-deep es) (law .one es) (since c es) b in
-        let l = lost-readout s (law .some-deep es) (law .one es) (since c es) b in
-        record {
-          whole = omega (arith, i .whole, ap (λ n. n .accepted) t, ap (λ n. n .taken) t, ap (λ n. n .lost) t, ap (λ n. n .clearedAway) t, h);
-          taken = omega (arith, i .taken, ap (λ n. n .taken) t, ends takenOf, ap (λ m. length (takenOf m)) f, k);
-          lost = omega (arith, i .lost, ap (λ n. n .lost) t, ends lostOf, ap (λ m. length (lostOf m)) f, l);
-          held = held-is (e ∷ es);
-          clearedAway = omega (arith, i .clearedAway, ap (λ n. n .clearedAway) t, ends heldOf);
-        }
-    step nothing q =
-        let s = c .setting es in
-        let t = next-totals c es e nothing q in
-        let ends = next-ends c es e nothing q in
-        let f = next-fates c es e nothing q s (law .keeps es e (rw q)) in
-        let h = next-held c es e nothing q s (law .keeps es e (rw q)) in
-        record {
-          whole = omega (arith, i .whole, ap (λ n. n .accepted) t, ap (λ n. n .taken) t, ap (λ n. n .lost) t, ap (λ n. n .clearedAway) t, h);
-          taken = omega (arith, i .taken, ap (λ n. n .taken) t, ends takenOf, ap (λ m. length (takenOf m)) f);
-          lost = omega (arith, i .lost, ap (λ n. n .lost) t, ends lostOf, ap (λ m. length (lostOf m)) f);
-          held = held-is (e ∷ es);
-          clearedAway = omega (arith, i .clearedAway, ap (λ n. n .clearedAway) t, ends heldOf);
-        }
+
+    step : (w : Said) → c .says es e ≡ w → OverClears c (e ∷ es)
+    step cleared q = after-clear q
+    step (sampled f) q = after-others (sampled f) q refl
+    step (readOut n) q = after-others (readOut n) q refl
+    step nothing q = after-others nothing q refl
 
   pub over-clears : (es : List (c .Event)) → OverClears c es
   unfolding totals endings fates since heldAfter

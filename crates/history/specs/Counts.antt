@@ -22,8 +22,8 @@ unfoldable pub begun : ℕ → ℕ → ℕ
 begun size zero = 0
 begun size (suc n) = worth 1 (eqb (n % size) 0) + begun size n
 
--- whether a sample enters that arrives while so many are held: "When full, FIFO mode drops the newcomer; STREAM and BYPASS drop the
--- oldest"
+-- whether a sample enters that arrives, at a depth, while so many are held: "When full, FIFO mode drops the newcomer; STREAM and BYPASS
+-- drop the oldest"
 abbrev pub enters : Drop → ℕ → ℕ → Bool
 enters Newcomer depth many = ltb many depth
 enters Oldest depth many = true
@@ -43,5 +43,5 @@ module _ {A : Type 0} (s : Setting) where
 
   -- of these, how many are held no more. Frames leave in the order in which they entered, so with frames numbered from 0 in that order
   -- this is the number of the oldest that is held
-  abbrev pub left : List (Event A) → ℕ
-  left es = entered es - heldAfter es
+  abbrev pub gone : List (Event A) → ℕ
+  gone es = entered es - heldAfter es

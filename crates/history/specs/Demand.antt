@@ -42,8 +42,8 @@ framesOf [] = []
 framesOf (r ∷ rs) = r .frames ++ framesOf rs
 
 -- "Past the last frame it gives zeros"
-abbrev pub bytesOf : Readout → List ℕ
-bytesOf r = firstOrZeros (r .bytes) (flat (r .frames))
+abbrev pub dueBytes : Readout → List ℕ
+dueBytes r = firstOrZeros (r .bytes) (flat (r .frames))
 
 -- the bytes that readouts gave, with those of one more event, whose readout gives `bytes n`
 abbrev pub gaveBy : (ℕ → List ℕ) → Said → List (List ℕ) → List (List ℕ)
@@ -84,7 +84,7 @@ module _ (c : Chip) where
     -- "Frames come out oldest first, each once": the frames that the readouts take are those of the taken samples, in order, and the
     -- bytes that the twin gave are theirs; those of the held come next
     pub frames : framesOf (readouts (c .setting es) (since c es)) ≡ takenOf (fates es)
-    pub out : gave t es ≡ map bytesOf (readouts (c .setting es) (since c es))
+    pub out : gave t es ≡ map dueBytes (readouts (c .setting es) (since c es))
     pub next : (e : c .Event) (n : ℕ) → c .says es e ≡ readOut n → t es 0x3F n ≡ firstOrZeros n (flat (heldOf (fates es)))
     -- "The overrun bit is 1 exactly when some sample is lost, and the frame count is the number still held"
     pub shown : t es 0x0E 1 ≡ dueStatus es ∷ []

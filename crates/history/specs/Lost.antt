@@ -7,7 +7,7 @@ use Rattle.fifo.specs.Ledger.{Event, sample, readout}
 use Rattle.fifo.specs.declared.Drop.{Drop}
 use Rattle.fifo.specs.declared.Drop.the-variants.{Newcomer, Oldest}
 use Rattle.fifo.specs.declared.Setting.{Setting}
-use Rattle.history.specs.Counts.{arrivals, enters, heldAfter, entered, left}
+use Rattle.history.specs.Counts.{arrivals, enters, heldAfter, entered, gone}
 
 -- a sample a, accepted after `earlier`
 module _ {A : Type 0} (s : Setting) (earlier : List (Event A)) (a : A) where
@@ -25,11 +25,11 @@ module _ {A : Type 0} (s : Setting) (earlier : List (Event A)) (a : A) where
     pub bytes : ℕ
     pub before : List (Event A)
     pub split : later ≡ rest ++ (readout bytes ∷ before)
-    -- held: it entered, and had not left when the readout came
+    -- held: it entered, and was not gone when the readout came
     pub enter : enters (s .drops) (s .depth) (heldAfter s earlier) ≡ true
-    pub stays : left s (upTo before) ≤ frameNumber
+    pub stays : gone s (upTo before) ≤ frameNumber
     -- "Frames come out oldest first": those ahead of it have size bytes each, and the next byte is read too
-    pub first : (frameNumber - left s (upTo before)) * s .size < bytes
+    pub first : (frameNumber - gone s (upTo before)) * s .size < bytes
 
   -- "those that saw 32 later accepted samples arrive before a readout reached them"
   pub record Saw (many : ℕ) (later : List (Event A)) : Type 0 where
