@@ -33,7 +33,7 @@ use Rattle.anymotion.proofs.Settings.{latch-is, sample-taken, restarts-
 use Rattle.anymotion.proofs.Points.{Follows, asPoints, OneOrNone, one-or-none, motionBy, markedOn, point-is, point-next}
 
 -- one less than N, so that it is seen to be one at least
-abbrev lessOne : List Event → ℕ
+abbrev pub lessOne : List Event → ℕ
 lessOne es = inForce es 0x27 % 4
 
 pub asked-is : (es : List Event) → pointsAsked es ≡ suc (lessOne es)
@@ -44,10 +44,10 @@ motionAfter es = motionBy (pointsAsked es) (isNonLatched es) (points es) (marked
 
 -- ---- an event after a history
 module _ (es : List Event) (e : Event) (same : restarts es e ≡ false) where
-  asked-kept : pointsAsked (e ∷ es) ≡ pointsAsked es
+  pub asked-kept : pointsAsked (e ∷ es) ≡ pointsAsked es
   asked-kept = rw (in-force-kept es e same 0x27 refl)
 
-  latch-kept : isNonLatched (e ∷ es) ≡ isNonLatched es
+  pub latch-kept : isNonLatched (e ∷ es) ≡ isNonLatched es
   latch-kept = rw (in-force-kept es e same 0x21 refl)
 
   not-anew : startsAnew e ≡ false
@@ -58,7 +58,7 @@ module _ (es : List Event) (e : Event) (same : restarts es e ≡ false) where
       go true s h = h
       go false s h = refl
 
-  points-kept : points (e ∷ es) ≡ pointAt es e ++ points es
+  pub points-kept : points (e ∷ es) ≡ pointAt es e ++ points es
   unfolding points
   points-kept = rw same
 
