@@ -25,7 +25,7 @@ use Rattle.events.specs.Bank.{bank}
 use Rattle.events.specs.Parts.{detectorsNext}
 use Rattle.events.proofs.Parts.{detectors-next}
 use Rattle.events.proofs.Runs.{bank-is}
-use Rattle.anymotion.specs.InForce.{inForce, isTaken, pointsAsked, isNonLatched, isTakenAt, startsAnew, restarts, forgets, Signed, fits, brings}
+use Rattle.anymotion.specs.InForce.{inForce, isTaken, pointsAsked, isNonLatched, isTakenAt, startsAnew, clearing, restarts, forgetting, forgets, Signed, fits, brings}
 use Rattle.anymotion.specs.Points.{Axis, OverAxes, samples, pointOfTwo, pointAt, points}
 use Rattle.anymotion.specs.Status.{isSetBy, isSet}
 use Rattle.anymotion.specs.Marks.{sets, firstAxis, markedAxes}
@@ -52,7 +52,7 @@ module _ (es : List Event) (e : Event) (same : restarts es e ≡ false) where
 
   not-anew : startsAnew e ≡ false
   unfolding restarts
-  not-anew = go (startsAnew e) (isTakenAt (0x0F ∷ 0x16 ∷ 0x21 ∷ 0x27 ∷ 0x28 ∷ []) es e) same
+  not-anew = go (startsAnew e) (isTakenAt clearing es e) same
     where
       go : (t s : Bool) → either t s ≡ false → t ≡ false
       go true s h = h
@@ -103,10 +103,10 @@ anew-next es e h = record { previous = rw h; motion = rw h }
 -- ---- a write
 module _ (es : List Event) (a byte : ℕ) (d : Detectors) (h : Agrees es d) where
   abbrev clears : Bool
-  clears = both (isTaken es a byte) (isIn (0x0F ∷ 0x16 ∷ 0x21 ∷ 0x27 ∷ 0x28 ∷ []) a)
+  clears = both (isTaken es a byte) (isIn clearing a)
 
   abbrev loses : Bool
-  loses = both (isTaken es a byte) (isIn (0x0F ∷ []) a)
+  loses = both (isTaken es a byte) (isIn forgetting a)
 
   module _ (old : startsAnew (write a byte) ≡ false) where
     cleared-next : clears ≡ true → restarted (d .motion) ≡ motionAfter (write a byte ∷ es)
