@@ -25,7 +25,7 @@ use Rattle.events.specs.Bank.{bank}
 use Rattle.events.specs.Parts.{detectorsNext}
 use Rattle.events.proofs.Parts.{detectors-next}
 use Rattle.events.proofs.Runs.{bank-is}
-use Rattle.anymotion.specs.InForce.{inForce, isTaken, pointsAsked, isNonLatched, isTakenAt, startsAnew, restarts, forgets, Signed, fits, brings}
+use Rattle.anymotion.specs.InForce.{inForce, isTaken, pointsAsked, isNonLatched, isTakenAt, startsAnew, clearing, restarts, forgetting, forgets, Signed, fits, brings}
 use Rattle.anymotion.specs.Points.{Axis, OverAxes, samples, pointOfTwo, pointAt, points}
 use Rattle.anymotion.specs.Status.{isSetBy, isSet}
 use Rattle.anymotion.specs.Marks.{sets, firstAxis, markedAxes}
@@ -33,7 +33,7 @@ use Rattle.anymotion.proofs.Settings.{latch-is, sample-taken, restarts-
 use Rattle.anymotion.proofs.Points.{Follows, asPoints, OneOrNone, one-or-none, motionBy, markedOn, point-is, point-next}
 
 -- one less than N, so that it is seen to be one at least
-abbrev lessOne : List Event → ℕ
+abbrev pub lessOne : List Event → ℕ
 lessOne es = inForce es 0x27 % 4
 
 pub asked-is : (es : List Event) → pointsAsked es ≡ suc (lessOne es)
@@ -44,21 +44,21 @@ motionAfter es = motionBy (pointsAsked es) (isNonLatched es) (points es) (marked
 
 -- ---- an event after a history
 module _ (es : List Event) (e : Event) (same : restarts es e ≡ false) where
-  asked-kept : pointsAsked (e ∷ es) ≡ pointsAsked es
+  pub asked-kept : pointsAsked (e ∷ es) ≡ pointsAsked es
   asked-kept = rw (in-force-kept es e same 0x27 refl)
 
-  latch-kept : isNonLatched (e ∷ es) ≡ isNonLatched es
+  pub latch-kept : isNonLatched (e ∷ es) ≡ isNonLatched es
   latch-kept = rw (in-force-kept es e same 0x21 refl)
 
   not-anew : startsAnew e ≡ false
   unfolding restarts
-  not-anew = go (startsAnew e) (isTakenAt (0x0F ∷ 0x16 ∷ 0x21 ∷ 0x27 ∷ 0x28 ∷ []) es e) same
+  not-anew = go (startsAnew e) (isTakenAt clearing es e) same
     where
       go : (t s : Bool) → either t s ≡ false → t ≡ false
       go true s h = h
       go false s h = refl
 
-  points-kept : points (e ∷ es) ≡ pointAt es e ++ points es
+  pub points-kept : points (e ∷ es) ≡ pointAt es e ++ points es
   unfolding points
   points-kept = rw same
 
@@ -103,10 +103,10 @@ anew-next es e h = record { previous = rw h; motion = rw h }
 -- ---- a write
 module _ (es : List Event) (a byte : ℕ) (d : Detectors) (h : Agrees es d) where
   abbrev clears : Bool
-  clears = both (isTaken es a byte) (isIn (0x0F ∷ 0x16 ∷ 0x21 ∷ 0x27 ∷ 0x28 ∷ []) a)
+  clears = both (isTaken es a byte) (isIn clearing a)
 
   abbrev loses : Bool
-  loses = both (isTaken es a byte) (isIn (0x0F ∷ []) a)
+  loses = both (isTaken es a byte) (isIn forgetting a)
 
   module _ (old : startsAnew (write a byte) ≡ false) where
     cleared-next : clears ≡ true → restarted (d .motion) ≡ motionAfter (write a byte ∷ es)

@@ -2,3 +2,6 @@ pub mod Split
 pub mod Settings
 pub mod Points
 pub mod Detector
+pub mod Promise
+pub mod Stays
+pub mod Rows

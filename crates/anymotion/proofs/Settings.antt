@@ -31,12 +31,12 @@ use Rattle.events.proofs.Runs.{bank-length}
 use Rattle.rules.specs.Proper.{isStored, spared}
 use Rattle.rules.proofs.Writes.{byteWritten, byte-written}
 use Rattle.rules.proofs.Registers.{latch-known}
-use Rattle.anymotion.specs.InForce.{inForce, isTaken, isNonLatched, isLatched, restarts, forgets, fits}
+use Rattle.anymotion.specs.InForce.{inForce, isTaken, meansNonLatched, meansLatched, isNonLatched, isLatched, clearing, restarts, forgetting, fits}
 use Rattle.anymotion.specs.Points.{anyEnabled}
 
 -- ---- 0x21
 module _ (byte : ℕ) where
-  pub latch-is : isUnlatched (latchOf byte) ≡ isIn (0b0000 ∷ 0b1000 ∷ []) (byte % 16)
+  pub latch-is : isUnlatched (latchOf byte) ≡ meansNonLatched byte
   unfolding latchOf
   latch-is = go (eqb (byte % 16) 0) (eqb (byte % 16) 8) (eqb (byte % 16) 7) (eqb (byte % 16) 15)
     where
@@ -47,16 +47,16 @@ module _ (byte : ℕ) where
       go false false false true = refl
       go false false false false = refl
 
-  one-latch : isModelled (latchOf byte) ≡ true → isIn (0b0111 ∷ 0b1111 ∷ []) (byte % 16) ≡ not (isIn (0b0000 ∷ 0b1000 ∷ []) (byte % 16))
+  one-latch : isModelled (latchOf byte) ≡ true → meansLatched byte ≡ not (meansNonLatched byte)
   unfolding latchOf
   one-latch = go (eqb (byte % 16) 0) refl (eqb (byte % 16) 8) refl (eqb (byte % 16) 7) refl (eqb (byte % 16) 15) refl
     where
-      -- a nibble that is one number is no other
-      only : (k : ℕ) → byte % 16 ≡ k → isIn (0b0111 ∷ 0b1111 ∷ []) k ≡ not (isIn (0b0000 ∷ 0b1000 ∷ []) k) → isIn (0b0111 ∷ 0b1111 ∷ []) (byte % 16) ≡ not (isIn (0b0000 ∷ 0b1000 ∷ []) (byte % 16))
+      -- where the nibble is k
+      only : (k : ℕ) → byte % 16 ≡ k → isIn (0b0111 ∷ 0b1111 ∷ []) k ≡ not (isIn (0b0000 ∷ 0b1000 ∷ []) k) → meansLatched byte ≡ not (meansNonLatched byte)
       only k e h = rw e h
 
       go : (a : Bool) → eqb (byte % 16) 0 ≡ a → (b : Bool) → eqb (byte % 16) 8 ≡ b → (c : Bool) → eqb (byte % 16) 7 ≡ c → (d : Bool) → eqb (byte % 16) 15 ≡ d
-          → isModelled (pick a Unlatched (pick b Unlatched (pick c Latched (pick d Latched NotModelled)))) ≡ true → isIn (0b0111 ∷ 0b1111 ∷ []) (byte % 16) ≡ not (isIn (0b0000 ∷ 0b1000 ∷ []) (byte % 16))
+          → isModelled (pick a Unlatched (pick b Unlatched (pick c Latched (pick d Latched NotModelled)))) ≡ true → meansLatched byte ≡ not (meansNonLatched byte)
       go true e b f c g d h m = only 0 (eqb-true _ 0 e) refl
       go false e true f c g d h m = only 8 (eqb-true _ 8 f) refl
       go false e false f true g d h m = only 7 (eqb-true _ 7 g) refl
@@ -117,11 +117,11 @@ module _ (es : List Event) (a byte : ℕ) where
   both-is true s = refl
   both-is false s = refl
 
-  pub restarts-is : judgement (bank es) a byte .deeds .restarts ≡ both (isTaken es a byte) (isIn (0x0F ∷ 0x16 ∷ 0x21 ∷ 0x27 ∷ 0x28 ∷ []) a)
+  pub restarts-is : judgement (bank es) a byte .deeds .restarts ≡ both (isTaken es a byte) (isIn clearing a)
   unfolding deedsOf
   restarts-is = of-deeds (λ d. d .restarts) ∙ both-is (isTaken es a byte) (isIn restarting a)
 
-  pub forgets-is : judgement (bank es) a byte .deeds .forgets ≡ both (isTaken es a byte) (isIn (0x0F ∷ []) a)
+  pub forgets-is : judgement (bank es) a byte .deeds .forgets ≡ both (isTaken es a byte) (isIn forgetting a)
   unfolding deedsOf
   forgets-is = of-deeds (λ d. d .forgets) ∙ both-is (isTaken es a byte) (eqb a 0x0F) ∙ ap (λ (t : Bool). both (isTaken es a byte) t) (or-none (eqb a 0x0F))
     where
@@ -130,19 +130,19 @@ module _ (es : List Event) (a byte : ℕ) where
       or-none false = refl
 
 -- what is in force at 0x16, 0x21, 0x27 and 0x28 changes at restarts only
-pub in-force-kept : (es : List Event) (e : Event) → restarts es e ≡ false → (c : ℕ) → isIn (0x0F ∷ 0x16 ∷ 0x21 ∷ 0x27 ∷ 0x28 ∷ []) c ≡ true → inForce (e ∷ es) c ≡ inForce es c
+pub in-force-kept : (es : List Event) (e : Event) → restarts es e ≡ false → (c : ℕ) → isIn clearing c ≡ true → inForce (e ∷ es) c ≡ inForce es c
 unfolding bank restarts
 in-force-kept es powerUp h c m = let z : _≡_ {A = ℕ} 0 1 = cc in absurd (omega arith)
 in-force-kept es (write a byte) h c m =
     byte-written (bank es) (bank-length es) c a byte ∙ go (isReset a byte) refl (both (isStored (bank es) a byte) (eqb c a)) refl h
   where
-    go : (r : Bool) → isReset a byte ≡ r → (s : Bool) → both (isStored (bank es) a byte) (eqb c a) ≡ s → either r (both (isTaken es a byte) (isIn (0x0F ∷ 0x16 ∷ 0x21 ∷ 0x27 ∷ 0x28 ∷ []) a)) ≡ false
+    go : (r : Bool) → isReset a byte ≡ r → (s : Bool) → both (isStored (bank es) a byte) (eqb c a) ≡ s → either r (both (isTaken es a byte) (isIn clearing a)) ≡ false
         → pick r (pick (isIn spared c) (inForce es c) (getD firstBytes c 0)) (pick s (merged (rowAt a) byte) (inForce es c)) ≡ inForce es c
     go true f s g h = cc
     go false f true g h =
         let own : c ≡ a = eqb-true c a (right (isStored (bank es) a byte) (eqb c a) g) in
         let ok : isTaken es a byte ≡ true = left (isTaken es a byte) _ (left (isStored (bank es) a byte) (eqb c a) g) in
-        let n : isIn (0x0F ∷ 0x16 ∷ 0x21 ∷ 0x27 ∷ 0x28 ∷ []) c ≡ false = rw own (rw ok at h) in
+        let n : isIn clearing c ≡ false = rw own (rw ok at h) in
         cc
     go false f false g h = refl
 in-force-kept es (read a n) h c m = refl

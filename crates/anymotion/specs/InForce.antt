@@ -24,12 +24,18 @@ isTaken es a byte = accepted (writeAnswer (bank es) a byte)
 abbrev pub pointsAsked : List Event → ℕ
 pointsAsked es = inForce es 0x27 % 4 + 1
 
--- "21: low nibble 0000 and 1000 non-latched, 0111 and 1111 latched"
+-- "21: low nibble 0000 and 1000 non-latched, 0111 and 1111 latched", of the byte
+abbrev pub meansNonLatched : ℕ → Bool
+meansNonLatched byte = isIn (0b0000 ∷ 0b1000 ∷ []) (byte % 16)
+
+abbrev pub meansLatched : ℕ → Bool
+meansLatched byte = isIn (0b0111 ∷ 0b1111 ∷ []) (byte % 16)
+
 abbrev pub isNonLatched : List Event → Bool
-isNonLatched es = isIn (0b0000 ∷ 0b1000 ∷ []) (inForce es 0x21 % 16)
+isNonLatched es = meansNonLatched (inForce es 0x21)
 
 abbrev pub isLatched : List Event → Bool
-isLatched es = isIn (0b0111 ∷ 0b1111 ∷ []) (inForce es 0x21 % 16)
+isLatched es = meansLatched (inForce es 0x21)
 
 -- ---- writes
 -- an accepted write to one of these addresses, after es
@@ -49,12 +55,18 @@ startsAnew (sample x y z temperature) = false
 startsAnew cycle = false
 
 -- "An accepted write to 0x0F, 0x16, 0x21, 0x27 or 0x28 clears status, marks and runs"
+abbrev pub clearing : List ℕ
+clearing = 0x0F ∷ 0x16 ∷ 0x21 ∷ 0x27 ∷ 0x28 ∷ []
+
 unfoldable pub restarts : List Event → Event → Bool
-restarts es e = either (startsAnew e) (isTakenAt (0x0F ∷ 0x16 ∷ 0x21 ∷ 0x27 ∷ 0x28 ∷ []) es e)
+restarts es e = either (startsAnew e) (isTakenAt clearing es e)
 
 -- "0x0F also forgets the previous sample"
+abbrev pub forgetting : List ℕ
+forgetting = 0x0F ∷ []
+
 unfoldable pub forgets : List Event → Event → Bool
-forgets es e = either (startsAnew e) (isTakenAt (0x0F ∷ []) es e)
+forgets es e = either (startsAnew e) (isTakenAt forgetting es e)
 
 -- ---- samples
 pub record Signed : Type 0 where

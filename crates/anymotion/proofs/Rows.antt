@@ -1,0 +1,58 @@
+-- 01, "N is 0x27 bits 1:0 plus 1. N over points in a row set it .. Non-latched, N calm points in a row clear it": for each N both sides of
+-- both edges, by computation. Assumes nothing.
+use Prim.Native.Nat.{ℕ}
+use mathlib.Core.Path.{_≡_, refl}
+use mathlib.Core.List.{List, [], _∷_, _++_, map}
+use lib.IntN.{ℤ, pos, negsuc}
+use Rattle.laws.specs.Bits.{bit}
+use Rattle.laws.specs.Bytes.{zeros, firstOrZeros, movedForward}
+use Rattle.codes.specs.Range.{rangeOf}
+use Rattle.codes.specs.Latch.{latchOf}
+use Rattle.codes.specs.Mode.{modeOf}
+use Rattle.codes.specs.Axes.{axesOf}
+use Rattle.table.specs.Rows.{listed, reservedAddresses, lineOf, refusedBits, rowOf, rowAt, resetBytes}
+use Rattle.registers.specs.Refused.{reservedCode, notModelled, answerAt, readAnswer}
+use Rattle.registers.specs.Deeds.{deedsOf, judgement}
+use Rattle.fifo.specs.Flat.{flatPushed, flatRead, bytesRead}
+use Rattle.fifo.specs.Store.{pushedIn, readIn, bytesIn, countIn, noFrames}
+use Rattle.channels.specs.Codes.{code}
+use Rattle.channels.specs.Channels.{byteAt, afterRead}
+use Rattle.slopes.specs.Previous.{slopesTo}
+use Rattle.slopes.specs.Point.{firstOver, pointOf}
+use Rattle.slopes.specs.Runs.{overRun, calmRun}
+use Rattle.motion.specs.Detector.{afterOver, afterCalm, afterSample, restarted}
+use Rattle.detectors.specs.Detectors.{detectorsSampled, detectorsWritten}
+use Rattle.interrupts.specs.Statuses.{statusesOf}
+use Rattle.interrupts.specs.Lines.{statusByte}
+use Rattle.device.specs.Device as device
+use Rattle.device.specs.Device.{firstBytes}
+use Rattle.device.specs.Show.{shownByte}
+use Rattle.device.specs.Read.{byteFrom, afterSingles, singleBytes, readOf}
+use Rattle.device.specs.Write.{written, writeOf}
+use Rattle.device.specs.Sample.{sampleAnswer, afterAccepted, sampleOf}
+use Rattle.events.specs.Event.{Event, write, read, sample, Given}
+use Rattle.events.specs.Run.{told}
+
+-- a sample of x alone, and a read of 0x09 after it
+abbrev x : ℕ → List Event
+x v = sample (pos v) (pos 0) (pos 0) 0 ∷ read 0x09 1 ∷ []
+
+-- x enabled and its threshold 4, with a byte in 0x27; then the first sample, four over points and four calm ones
+abbrev script : ℕ → List Event
+script byte = write 0x16 0x01 ∷ write 0x28 0x01 ∷ write 0x27 byte ∷ (x 0 ++ (x 5 ++ (x 0 ++ (x 5 ++ (x 0 ++ (x 0 ++ (x 0 ++ (x 0 ++ x 0))))))))
+
+-- the bytes of the reads
+abbrev readBytes : List Given → List ℕ
+readBytes [] = []
+readBytes (g ∷ gs) = g .bytes ++ readBytes gs
+
+-- set at the Nth over point and not before, cleared at the Nth calm point and not before: N is 1, 2, 3 and 4
+in-a-row :
+    map (λ byte. readBytes (told device.powerUp (script byte))) (0 ∷ 1 ∷ 2 ∷ 3 ∷ [])
+    ≡ (0 ∷ 4 ∷ 4 ∷ 4 ∷ 4 ∷ 0 ∷ 0 ∷ 0 ∷ 0 ∷ [])
+    ∷ (0 ∷ 0 ∷ 4 ∷ 4 ∷ 4 ∷ 4 ∷ 0 ∷ 0 ∷ 0 ∷ [])
+    ∷ (0 ∷ 0 ∷ 0 ∷ 4 ∷ 4 ∷ 4 ∷ 4 ∷ 0 ∷ 0 ∷ [])
+    ∷ (0 ∷ 0 ∷ 0 ∷ 0 ∷ 4 ∷ 4 ∷ 4 ∷ 4 ∷ 0 ∷ [])
+    ∷ []
+unfolding bit zeros firstOrZeros movedForward rangeOf latchOf modeOf axesOf listed reservedAddresses lineOf refusedBits rowOf rowAt resetBytes reservedCode notModelled answerAt readAnswer deedsOf judgement flatPushed flatRead bytesRead pushedIn readIn bytesIn countIn noFrames code byteAt afterRead slopesTo firstOver pointOf overRun calmRun afterOver afterCalm afterSample restarted detectorsSampled detectorsWritten statusesOf statusByte device.powerUp firstBytes shownByte byteFrom afterSingles singleBytes readOf written writeOf sampleAnswer afterAccepted sampleOf
+in-a-row = refl
