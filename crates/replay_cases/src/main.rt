@@ -3,8 +3,8 @@ use benchlog::CycleEntry;
 use benchlog::Entry;
 use benchlog::WriteEntry;
 use benchlog::room_number_of;
-use benchlog::write_entry;
-use benchlog::write_version;
+use logwriter::write_entry;
+use logwriter::write_version;
 use libc::STDOUT_FILENO;
 
 // The last decimal digit of a number.
