@@ -13,4 +13,5 @@ pub mod SettledInterrupts
 pub mod SettledDevice
 pub mod Words
 pub mod Refusals
+pub mod LogRefusals
 pub mod Contracts
