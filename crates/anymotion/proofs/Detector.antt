@@ -63,7 +63,7 @@ module _ (es : List Event) (e : Event) (same : restarts es e ≡ false) where
   points-kept = rw same
 
   -- the axes marked after the event, where ps are the points
-  marked-kept : (ps : List OverAxes) → points (e ∷ es) ≡ ps
+  pub marked-kept : (ps : List OverAxes) → points (e ∷ es) ≡ ps
       → markedAxes (e ∷ es) ≡ pick (both (not (isSet es)) (isSetBy (pointsAsked es) (isNonLatched es) ps)) (firstAxis ps ++ markedAxes es) (markedAxes es)
   unfolding markedAxes sets
   marked-kept ps h = rw (not-anew, asked-kept, latch-kept, h)

@@ -49,7 +49,7 @@ module _ (es : List Event) where
   set-is : (isSet es ≡ true) ↔ Came es
   set-is = rw (asked-is es) (set-when (lessOne es) (isNonLatched es) (points es))
 
-  shown : (t : Bool) → (bytes (worth 4 t ∷ []) ≡ bytes (4 ∷ [])) ↔ (t ≡ true)
+  pub shown : (t : Bool) → (bytes (worth 4 t ∷ []) ≡ bytes (4 ∷ [])) ↔ (t ≡ true)
   shown true = ((λ h. refl), (λ h. refl))
   shown false = ((λ h. let z : _≡_ {A = ℕ} 0 4 = ap (λ (g : Given). getD (g .bytes) 0 0) h in absurd (omega arith)), (λ h. let z : _≡_ {A = ℕ} 0 1 = cc in absurd (omega arith)))
 
