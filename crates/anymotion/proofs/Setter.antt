@@ -1,13 +1,12 @@
 -- 01, "On setting, 0x0B bits 2:0 (z, y, x) mark the first over axis (x before y before z) at that point, and bit 3 is 1 for a negative
 -- difference": while the status is 1 there is a point that set it, and 0x0B marks that one. Assumes nothing.
-use Prim.Native.Nat.{ℕ, suc, _+_}
+use Prim.Native.Nat.{ℕ, suc}
 use mathlib.Core.Bool.{Bool, true, false, not}
 use mathlib.Core.List.{List, [], _∷_, _++_}
 use mathlib.Core.Path.{_≡_, refl, sym, ap, _∙_}
 use native.Mathlib.Omega.{arith}
 use lib.ListN.{take, drop, take-append-drop}
 use Rattle.laws.specs.Choice.{pick, both}
-use Rattle.laws.specs.Bits.{worth}
 use Rattle.events.specs.Event.{Event, bytes}
 use Rattle.anymotion.specs.InForce.{inForce, pointsAsked, isNonLatched, restarts, brings}
 use Rattle.anymotion.specs.Points.{Axis, OverAxes, samples, pointAt, points}
@@ -15,7 +14,7 @@ use Rattle.anymotion.specs.Status.{isOver, isCalm, lastAre, isSetBy, isS
 use Rattle.anymotion.specs.Marks.{firstAxis, markOf, signOf, markedAxes, marksByte, SetAt, marksAt}
 use Rattle.anymotion.proofs.Split.{taken-many, taken-all, none-in-none, further, front-or-within, last-longer, set-when}
 use Rattle.anymotion.proofs.Points.{OneOrNone, one-or-none}
-use Rattle.anymotion.proofs.Detector.{lessOne, asked-is, asked-kept, latch-kept, points-kept, marked-kept}
+use Rattle.anymotion.proofs.Detector.{lessOne, asked-is, latch-kept, points-kept, marked-kept}
 use Rattle.anymotion.proofs.Settings.{in-force-kept}
 use Rattle.anymotion.proofs.Stays.{restart-clears}
 use Rattle.anymotion.proofs.Promise.{reads, reads-status, reads-marks, shown}
