@@ -1,0 +1,88 @@
+-- Demand 2: whatever the events, the device meets it.
+-- Assumes nothing.
+use Prim.Native.Nat.{ℕ, _≤_}
+use mathlib.Core.Bool.{true, false}
+use mathlib.Core.List.{List}
+use mathlib.Core.Path.{_≡_, refl, ap, sym, subst, _∙_}
+use native.Mathlib.Omega.{arith}
+use lib.Dec.{eqb, ltb}
+use lib.ListN.{length}
+use borrow.Author.Tests.{le-ltb, ne-eqb}
+use Rattle.laws.specs.Bits.{bit}
+use Rattle.laws.specs.Bytes.{zeros, firstOrZeros}
+use Rattle.laws.proofs.Bytes.{length-zeros}
+use Rattle.fifo.specs.Flat.{Flat, flat, packed}
+use Rattle.fifo.specs.Ledger.{heldOf, lostOf}
+use Rattle.motion.specs.declared.Motion.{Motion}
+use Rattle.registers.specs.Answers.{accepted, number}
+use Rattle.registers.specs.Refused.{readAnswer}
+use Rattle.device.specs.Device.{flatOf}
+use Rattle.device.specs.Read.{readOf, burstBytes, bufferAfter}
+use Rattle.device.specs.Show.{pinsOf}
+use Rattle.events.specs.Event.{Event, read, bytes, gives}
+use Rattle.events.specs.Run.{after}
+use Rattle.history.specs.Chip.{readOut}
+use Rattle.history.specs.Demand.{fates}
+use Rattle.history.specs.History.{accelerometer, readsOut, saysHere, twin}
+use Rattle.history.proofs.Conserve.{demand3, device-holds}
+use Rattle.anymotion.specs.Status.{isSet}
+use Rattle.anymotion.specs.Marks.{markOf, signOf, markedAxes}
+use Rattle.anymotion.proofs.Detector.{detector-is}
+use Rattle.rules.specs.Bursts.{isBurst}
+use Rattle.rules.specs.Rules.{Elsewhere, ruled, toInt1, toInt2, someMapped, Leveled}
+use Rattle.rules.specs.Stored.{Bytes}
+use Rattle.rules.proofs.Reading.{elsewhereIn, reads}
+use Rattle.rules.proofs.Pins.{pins}
+use Rattle.demand2.specs.Demand2.{elsewhere, Demand2}
+
+-- ---- what the device shows of the FIFO and of any-motion is what the events tell
+elsewhere-is : (es : List Event) → elsewhereIn (after es) ≡ elsewhere es
+unfolding elsewhere packed
+elsewhere-is es = λ i. record {
+  count = device-holds es i .count;
+  overrun = device-holds es i .overrun;
+  moved = detector-is es i .alarm .status;
+  mark = detector-is es i .alarm .mark;
+  negative = detector-is es i .alarm .negative;
+}
+
+-- ---- a readout
+module _ (es : List Event) (n : ℕ) (some : 1 ≤ n) (few : n ≤ 192) where
+  taken : readAnswer 0x3F n ≡ readAnswer 0x3F 1
+  unfolding readAnswer
+  taken =
+      let p : eqb n 0 ≡ false = ne-eqb n 0 (omega arith) in
+      let q : ltb 192 n ≡ false = le-ltb 192 n few in
+      rw (p, q)
+
+  ok : accepted (readAnswer 0x3F n) ≡ true
+  unfolding readAnswer
+  ok = rw taken
+
+  out : readsOut 0x3F n ≡ true
+  unfolding readsOut
+  out = rw ok
+
+  said : saysHere es (read 0x3F n) ≡ readOut n
+  unfolding saysHere
+  said = rw out
+
+  given : burstBytes (after es) 0x3F n ≡ twin es 0x3F n
+  unfolding twin bufferAfter
+  given = rw (length-zeros, ok)
+
+  pub readout : gives (after es) (read 0x3F n) ≡ bytes (firstOrZeros n (flat (heldOf (fates accelerometer es))))
+  unfolding readOf readAnswer
+  readout = rw (ok, taken, given, demand3 es .demand .next (read 0x3F n) n said)
+
+pub demand2 : (es : List Event) → Bytes es → Demand2 es
+demand2 es b =
+    let p = subst (λ (w : Elsewhere). let r = ruled w es in
+    Leveled (someMapped r toInt1) (bit 0 (r 0x20)) (bit 1 (r 0x20)) (pinsOf (after es) .int1)
+    × Leveled (someMapped r toInt2) (bit 2 (r 0x20)) (bit 3 (r 0x20)) (pinsOf (after es) .int2)) (elsewhere-is es) (pins es b) in
+    record {
+      below = λ a n h. reads es b a n h ∙ rw (elsewhere-is es);
+      frames = λ n some few. readout es n some few;
+      int1 = p .0;
+      int2 = p .1;
+    }
