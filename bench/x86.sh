@@ -10,7 +10,7 @@ fi
 if ! command -v "$cc" >/dev/null 2>&1; then
     package=gcc
     [ "$cc" = gcc ] || package=gcc-x86-64-linux-gnu
-    { apt-get update && apt-get install -y "$package" libc6-dev; [ "$cc" = gcc ] || apt-get install -y libc6-dev-amd64-cross; } >/dev/null 2>&1
+    { apt-get update && apt-get install -y "$package" libc6-dev; [ "$cc" = gcc ] || apt-get install -y libc6-dev-amd64-cross; } >/dev/null 2>&1 || true
 fi
 command -v "$cc" >/dev/null 2>&1 || { echo "there is no C compiler for x86-64: install gcc-x86-64-linux-gnu" >&2; exit 2; }
 # The twin's own programs run under the kit's loader.

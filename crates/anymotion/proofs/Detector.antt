@@ -1,16 +1,14 @@
 -- After any history the detector is the one that looking back on the points tells. Assumes nothing.
-use Prim.Native.Nat.{ℕ, suc, _+_, _%_}
+use Prim.Native.Nat.{ℕ, suc, _%_}
 use mathlib.Core.Bool.{Bool, true, false, not}
 use mathlib.Core.List.{List, [], _∷_, _++_}
 use mathlib.Core.Path.{_≡_, refl, sym, ap, _∙_}
-use native.Mathlib.Omega.{arith}
 use native.Mathlib.Numerals.{add-one}
 use lib.IntN.{ℤ}
 use Rattle.laws.specs.Choice.{pick, both, either}
 use Rattle.laws.specs.Lists.{isIn}
-use Rattle.slopes.specs.Previous.{remembered, forgotten, slopesTo}
-use Rattle.slopes.specs.declared.Previous.{Previous}
-use Rattle.motion.specs.Detector.{quiet, afterPoint, afterSample, restarted}
+use Rattle.slopes.specs.Previous.{forgotten, slopesTo}
+use Rattle.motion.specs.Detector.{afterPoint, afterSample, restarted}
 use Rattle.motion.specs.declared.Motion.{Motion}
 use Rattle.detectors.specs.Detectors.{allQuiet, motionSettings, detectorsSampled, detectorsWritten}
 use Rattle.detectors.specs.declared.Detectors.{Detectors}
@@ -63,7 +61,7 @@ module _ (es : List Event) (e : Event) (same : restarts es e ≡ false) where
   points-kept = rw same
 
   -- the axes marked after the event, where ps are the points
-  marked-kept : (ps : List OverAxes) → points (e ∷ es) ≡ ps
+  pub marked-kept : (ps : List OverAxes) → points (e ∷ es) ≡ ps
       → markedAxes (e ∷ es) ≡ pick (both (not (isSet es)) (isSetBy (pointsAsked es) (isNonLatched es) ps)) (firstAxis ps ++ markedAxes es) (markedAxes es)
   unfolding markedAxes sets
   marked-kept ps h = rw (not-anew, asked-kept, latch-kept, h)

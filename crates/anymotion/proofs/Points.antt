@@ -2,7 +2,7 @@
 use Prim.Native.Nat.{ℕ, zero, suc, _*_, _^_}
 use mathlib.Core.Bool.{Bool, true, false, not}
 use mathlib.Core.List.{List, [], _∷_, _++_, map}
-use mathlib.Core.Path.{_≡_, refl, sym, ap, _∙_}
+use mathlib.Core.Path.{_≡_, refl}
 use native.Mathlib.Numerals.{add-one}
 use lib.Dec.{leb, ltb, leb·zero, leb·suc-zero, leb·suc-suc}
 use lib.IntN.{ℤ, pos, _-ℤ_, natAbs}
@@ -14,10 +14,9 @@ use Rattle.alarm.specs.Alarm.{raised, cleared}
 use Rattle.alarm.specs.declared.Alarm.{Alarm}
 use Rattle.slopes.specs.Slope.{slopeOf}
 use Rattle.slopes.specs.Previous.{remembered, slopesTo}
-use Rattle.slopes.specs.Point.{overOn, noAxis, firstOver, pointOf}
+use Rattle.slopes.specs.Point.{overOn, firstOver, pointOf}
 use Rattle.slopes.specs.Runs.{runsAfter, overRun, calmRun, oversInRow, calmsInRow}
 use Rattle.slopes.specs.declared.Previous.{Previous}
-use Rattle.slopes.specs.declared.Slope.{Slope}
 use Rattle.slopes.specs.declared.Point.{Point}
 use Rattle.slopes.specs.declared.Point.the-variants.{None, Calm, Over}
 use Rattle.slopes.proofs.InRow.{overs-reached, calms-reached}

@@ -1,6 +1,6 @@
 -- Demand 2 for any-motion: after any history, what reads of 0x09 and 0x0B give is what 01 says of its events. Assumes nothing.
-use Prim.Native.Nat.{ℕ, suc, _+_, _%_, _<_, _≤_}
-use mathlib.Core.Bool.{Bool, true, false, not}
+use Prim.Native.Nat.{ℕ, _+_, _%_, _<_}
+use mathlib.Core.Bool.{Bool, true, false}
 use mathlib.Core.List.{List, [], _∷_}
 use mathlib.Core.Logic.{_↔_}
 use mathlib.Core.Path.{_≡_, refl, sym, ap, subst, _∙_}
@@ -12,11 +12,11 @@ use Rattle.laws.specs.Bits.{bit, worth}
 use Rattle.motion.specs.declared.Motion.{Motion}
 use Rattle.events.specs.Event.{Event, read, Given, bytes, gives}
 use Rattle.events.specs.Run.{after}
-use Rattle.rules.specs.Rules.{alarmAfter, ruled}
+use Rattle.rules.specs.Rules.{ruled}
 use Rattle.rules.proofs.Registers as rules
 use Rattle.anymotion.specs.InForce.{pointsAsked, isNonLatched, isLatched}
 use Rattle.anymotion.specs.Points.{points}
-use Rattle.anymotion.specs.Status.{isOver, isCalm, isSetBy, isSet, InRow, CameInRow, Came}
+use Rattle.anymotion.specs.Status.{isOver, isCalm, isSet, InRow, Came}
 use Rattle.anymotion.specs.Marks.{markOf, signOf, markedAxes, marksByte}
 use Rattle.anymotion.proofs.Split.{set-when}
 use Rattle.anymotion.proofs.Settings.{latched-or-not}
@@ -49,7 +49,7 @@ module _ (es : List Event) where
   set-is : (isSet es ≡ true) ↔ Came es
   set-is = rw (asked-is es) (set-when (lessOne es) (isNonLatched es) (points es))
 
-  shown : (t : Bool) → (bytes (worth 4 t ∷ []) ≡ bytes (4 ∷ [])) ↔ (t ≡ true)
+  pub shown : (t : Bool) → (bytes (worth 4 t ∷ []) ≡ bytes (4 ∷ [])) ↔ (t ≡ true)
   shown true = ((λ h. refl), (λ h. refl))
   shown false = ((λ h. let z : _≡_ {A = ℕ} 0 4 = ap (λ (g : Given). getD (g .bytes) 0 0) h in absurd (omega arith)), (λ h. let z : _≡_ {A = ℕ} 0 1 = cc in absurd (omega arith)))
 

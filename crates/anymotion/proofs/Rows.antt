@@ -3,7 +3,7 @@
 use Prim.Native.Nat.{ℕ}
 use mathlib.Core.Path.{_≡_, refl}
 use mathlib.Core.List.{List, [], _∷_, _++_, map}
-use lib.IntN.{ℤ, pos, negsuc}
+use lib.IntN.{pos}
 use Rattle.laws.specs.Bits.{bit}
 use Rattle.laws.specs.Bytes.{zeros, firstOrZeros, movedForward}
 use Rattle.codes.specs.Range.{rangeOf}

@@ -1,9 +1,9 @@
 -- What the device goes by is what 01 names: the codes of 0x21, the axes of 0x16, the samples of -2048..2047, and the writes that clear or
 -- forget. Assumes nothing.
-use Prim.Native.Nat.{ℕ, suc, _/_, _%_, _^_}
+use Prim.Native.Nat.{ℕ, _/_, _%_, _^_}
 use mathlib.Core.Bool.{Bool, true, false, not}
 use mathlib.Core.List.{List, [], _∷_}
-use mathlib.Core.Path.{_≡_, refl, sym, ap, _∙_}
+use mathlib.Core.Path.{_≡_, refl, ap, _∙_}
 use native.Mathlib.Omega.{arith}
 use borrow.Author.Tests.{eqb-true, leb-true, leb-false, le-ltb, lt-ltb}
 use lib.Dec.{eqb, leb, ltb, leb·suc-suc}
@@ -19,7 +19,6 @@ use Rattle.channels.specs.Codes.{inRange}
 use Rattle.slopes.specs.Point.{noAxis}
 use Rattle.table.specs.Rows.{rowAt, merged}
 use Rattle.registers.specs.Answers.{accepted}
-use Rattle.registers.specs.Refused.{writeAnswer}
 use Rattle.registers.specs.Deeds.{restarting, isReset, deedsOf, noDeeds, judgement}
 use Rattle.registers.specs.declared.Answer.the-variants.{Done, OutOfRange}
 use Rattle.registers.specs.declared.Deeds.{Deeds}
@@ -29,7 +28,7 @@ use Rattle.events.specs.Event.{Event, powerUp, write, read, sample, cycle}
 use Rattle.events.specs.Bank.{bank}
 use Rattle.events.proofs.Runs.{bank-length}
 use Rattle.rules.specs.Proper.{isStored, spared}
-use Rattle.rules.proofs.Writes.{byteWritten, byte-written}
+use Rattle.rules.proofs.Writes.{byte-written}
 use Rattle.rules.proofs.Registers.{latch-known}
 use Rattle.anymotion.specs.InForce.{inForce, isTaken, meansNonLatched, meansLatched, isNonLatched, isLatched, clearing, restarts, forgetting, fits}
 use Rattle.anymotion.specs.Points.{anyEnabled}

@@ -14,12 +14,12 @@ use Rattle.anymotion.specs.Status.{isOver, isCalm, every, lastAre, isSet
 
 module _ (so : OverAxes → Bool) where
   -- ---- the last n points as a row
-  taken-many : (n : ℕ) (ps : List OverAxes) → lastAre so n ps ≡ true → length (take n ps) ≡ n
+  pub taken-many : (n : ℕ) (ps : List OverAxes) → lastAre so n ps ≡ true → length (take n ps) ≡ n
   taken-many zero ps h = refl
   taken-many (suc n) [] h = let z : _≡_ {A = ℕ} 0 1 = cc in absurd (omega arith)
   taken-many (suc n) (p ∷ ps) h = ap suc (taken-many n ps (right (so p) (lastAre so n ps) h))
 
-  taken-all : (n : ℕ) (ps : List OverAxes) → lastAre so n ps ≡ true → every so (take n ps) ≡ true
+  pub taken-all : (n : ℕ) (ps : List OverAxes) → lastAre so n ps ≡ true → every so (take n ps) ≡ true
   taken-all zero ps h = refl
   taken-all (suc n) [] h = refl
   taken-all (suc n) (p ∷ ps) h = rw (left (so p) (lastAre so n ps) h) (taken-all n ps (right (so p) (lastAre so n ps) h))
@@ -39,18 +39,18 @@ module _ (so : OverAxes → Bool) where
   row-last (suc n) [] earlier m a = absurd (omega arith)
   row-last (suc n) (p ∷ row) earlier m a = rw (left (so p) (every so row) a) (row-last n row earlier (omega arith) (right (so p) (every so row) a))
 
-  last-longer : (n : ℕ) (ps qs : List OverAxes) → lastAre so n ps ≡ true → lastAre so n (ps ++ qs) ≡ true
+  pub last-longer : (n : ℕ) (ps qs : List OverAxes) → lastAre so n ps ≡ true → lastAre so n (ps ++ qs) ≡ true
   last-longer zero ps qs h = refl
   last-longer (suc n) [] qs h = let z : _≡_ {A = ℕ} 0 1 = cc in absurd (omega arith)
   last-longer (suc n) (p ∷ ps) qs h = rw (left (so p) (lastAre so n ps) h) (last-longer n ps qs (right (so p) (lastAre so n ps) h))
 
   -- ---- rows of one point or more
-  none-in-none : (n : ℕ) → ¬ InRow so (suc n) []
+  pub none-in-none : (n : ℕ) → ¬ InRow so (suc n) []
   none-in-none n r =
       let e : length (r .later) + (length (r .row) + length (r .earlier)) ≡ 0 = sym (simp length-append at (ap length (r .split))) in
       omega (arith, r .many)
 
-  abbrev further : (n : ℕ) (p : OverAxes) (ps : List OverAxes) → InRow so n ps → InRow so n (p ∷ ps)
+  abbrev pub further : (n : ℕ) (p : OverAxes) (ps : List OverAxes) → InRow so n ps → InRow so n (p ∷ ps)
   further n p ps r = record {
     later = p ∷ r .later;
     row = r .row;
@@ -61,7 +61,7 @@ module _ (so : OverAxes → Bool) where
   }
 
   -- a row among p ∷ ps is the last points, or it is a row among ps
-  front-or-within : (n : ℕ) (p : OverAxes) (ps : List OverAxes) → lastAre so n (p ∷ ps) ≡ false → ¬ InRow so n ps → ¬ InRow so n (p ∷ ps)
+  pub front-or-within : (n : ℕ) (p : OverAxes) (ps : List OverAxes) → lastAre so n (p ∷ ps) ≡ false → ¬ InRow so n ps → ¬ InRow so n (p ∷ ps)
   front-or-within n p ps f w r = go (r .later) (r .split)
     where
       go : (later : List OverAxes) → p ∷ ps ≡ later ++ (r .row ++ r .earlier) → ⊥

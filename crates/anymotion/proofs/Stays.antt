@@ -2,8 +2,8 @@
 -- Assumes nothing.
 use Prim.Native.Nat.{ℕ, suc, _%_, _≤_}
 use mathlib.Core.Bool.{Bool, true, false, not}
-use mathlib.Core.List.{List, [], _∷_, _++_}
-use mathlib.Core.Path.{_≡_, refl, sym, ap, _∙_}
+use mathlib.Core.List.{List, [], _∷_}
+use mathlib.Core.Path.{_≡_, refl, _∙_}
 use native.Mathlib.Omega.{arith}
 use borrow.Author.Tests.{leb-true}
 use lib.Dec.{eqb, leb}
@@ -11,7 +11,7 @@ use lib.IntN.{ℤ, pos, negsuc, _-ℤ_, natAbs}
 use lib.Signed.{mag}
 use Rattle.laws.specs.Choice.{pick, both, either}
 use Rattle.laws.specs.Bits.{bit}
-use Rattle.laws.proofs.Finite.{left, right}
+use Rattle.laws.proofs.Finite.{left}
 use Rattle.laws.proofs.Ints.{sub-size}
 use Rattle.laws.specs.Lists.{isIn}
 use Rattle.events.specs.Event.{Event, powerUp, write, read, sample, cycle}

@@ -13,7 +13,8 @@ use Rattle.registers.specs.Refused.{writeAnswer}
 use Rattle.events.specs.Event.{Event, powerUp, write, read, sample, cycle}
 use Rattle.events.specs.Bank.{bank, stored}
 
--- ---- the registers: the byte that is in force at an address, and whether a write of a byte to an address is accepted
+-- ---- the registers: the byte that is in force at an address, and whether a write of a byte to an address is accepted. All that is said of
+-- the registers here goes through these two
 abbrev pub inForce : List Event → ℕ → ℕ
 inForce es a = stored es a
 

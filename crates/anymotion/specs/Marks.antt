@@ -1,7 +1,8 @@
 -- 01, "Interrupts and pins", any-motion: the marks and the sign, of the points that set the status.
 use Prim.Native.Nat.{ℕ, _+_, _^_}
-use mathlib.Core.Bool.{Bool, false, not}
+use mathlib.Core.Bool.{Bool, true, false, not}
 use mathlib.Core.List.{List, [], _∷_, _++_}
+use mathlib.Core.Path.{_≡_}
 use lib.IntN.{pos}
 use lib.Signed.{ltZ}
 use Rattle.laws.specs.Choice.{pick, both}
@@ -9,7 +10,7 @@ use Rattle.laws.specs.Bits.{worth}
 use Rattle.events.specs.Event.{Event}
 use Rattle.anymotion.specs.InForce.{startsAnew}
 use Rattle.anymotion.specs.Points.{Axis, OverAxes, points}
-use Rattle.anymotion.specs.Status.{isSet}
+use Rattle.anymotion.specs.Status.{isOver, isCalm, lastAre, isSet, InRow, CameInRow}
 
 -- the event e sets the status; "A status already set is not set again"
 unfoldable pub sets : List Event → Event → Bool
@@ -39,3 +40,18 @@ signOf (a ∷ axes) = ltZ (a .difference) (pos 0)
 -- the byte of 0x0B: "The marks clear with the status; bit 3 stays until the next setting or soft reset"
 unfoldable pub marksByte : List Event → ℕ
 marksByte es = pick (isSet es) (markOf (markedAxes es)) 0 + worth 8 (signOf (markedAxes es))
+
+-- ---- the point that set a status which is set, among the points since the last restart: "N over points in a row" end with it, the
+-- status was not set before it, and, non-latched, no N calm points in a row came after it
+pub record SetAt (n : ℕ) (nonLatched : Bool) (ps : List OverAxes) : Type 0 where
+  pub later : List OverAxes
+  pub point : OverAxes
+  pub earlier : List OverAxes
+  pub split : ps ≡ later ++ (point ∷ earlier)
+  pub row : lastAre isOver n (point ∷ earlier) ≡ true
+  pub before : ¬ CameInRow n nonLatched earlier
+  pub since : nonLatched ≡ true → ¬ InRow isCalm n later
+
+-- the byte that marks it
+abbrev pub marksAt : OverAxes → ℕ
+marksAt point = markOf point + worth 8 (signOf point)

@@ -1,6 +1,6 @@
 -- 01, "Interrupts and pins", any-motion: the points of a history, from its events alone.
 use Prim.Native.Nat.{ℕ, _*_}
-use mathlib.Core.Bool.{Bool, not}
+use mathlib.Core.Bool.{Bool}
 use mathlib.Core.List.{List, [], _∷_, _++_}
 use lib.Dec.{ltb}
 use lib.IntN.{ℤ, _-ℤ_, natAbs}
@@ -9,7 +9,8 @@ use Rattle.laws.specs.Bits.{bit}
 use Rattle.events.specs.Event.{Event}
 use Rattle.anymotion.specs.InForce.{inForce, restarts, forgets, Signed, brings}
 
--- the accepted samples since power-up, soft reset or an accepted write to 0x0F, the latest first: it is the previous sample of the next
+-- the accepted samples since power-up, soft reset or an accepted write to 0x0F, the latest first: of a next
+-- sample the first of them is the previous one
 unfoldable pub samples : List Event → List Signed
 samples [] = []
 samples (e ∷ es) = pick (forgets es e) [] (brings e ++ samples es)
@@ -40,6 +41,7 @@ aboveAmong enabled threshold (a ∷ axes) = pick (isAbove enabled threshold a) (
 abbrev pub OverAxes : Type 0
 OverAxes = List Axis
 
+-- of the byte of 0x16: not "no axis is enabled"
 abbrev pub anyEnabled : ℕ → Bool
 anyEnabled enabled = either (bit 0 enabled) (either (bit 1 enabled) (bit 2 enabled))
 

@@ -11,6 +11,8 @@ pub mod SettledMotion
 pub mod SettledDetectors
 pub mod SettledInterrupts
 pub mod SettledDevice
+pub mod SettledPlayback
 pub mod Words
 pub mod Refusals
+pub mod LogRefusals
 pub mod Contracts

@@ -2,20 +2,19 @@
 -- Assumes nothing.
 use Prim.Native.Nat.{ℕ, _<_}
 use mathlib.Core.Bool.{Bool, true, false, not}
-use mathlib.Core.List.{List, []}
+use mathlib.Core.List.{List}
 use mathlib.Core.Logic.{_↔_, _⊎_, inl, inr, ⊎-elim}
-use mathlib.Core.Path.{_≡_, refl, sym, ap, subst, _∙_}
+use mathlib.Core.Path.{_≡_, refl, sym, subst, _∙_}
 use native.Mathlib.Omega.{arith}
 use borrow.Author.Tests.{ltb-true, ltb-false, lt-ltb, le-ltb, eqb-true, eq-eqb}
 use lib.Dec.{T, eqb, ltb}
 use lib.IntN.{ℤ, pos, negsuc, negℤ}
-use lib.ListN.{getD}
 use lib.Signed.{ltZ, _<ℤ_, ltZ-yes}
 use Rattle.laws.specs.Bits.{bit}
 use Rattle.laws.specs.Choice.{pick, both, either}
 use Rattle.laws.specs.Table.{upFrom}
 use Rattle.laws.proofs.Refusals.{ways}
-use Rattle.laws.proofs.Table.{entry}
+use Rattle.laws.proofs.Finite.{alike}
 use Rattle.channels.specs.Codes.{inRange}
 use Rattle.codes.specs.Latch.{latchOf}
 use Rattle.codes.specs.Mode.{modeOf}
@@ -24,7 +23,7 @@ use Rattle.registers.specs.Refused.{reservedCode, notModelled}
 use Rattle.table.specs.Rows.{rowAt, rowOf, lineOf, listed, refusedBits, reservedAddresses}
 use Rattle.outcomes.specs.Numbers.{isReservedWrite, isUnmodelledWrite, Outside}
 
-no : {X : Type 0} → false ≡ true → X
+pub no : {X : Type 0} → false ≡ true → X
 no e = let z : _≡_ {A = ℕ} 0 1 = cc in absurd (omega arith)
 
 -- ---- a test that is true exactly when P holds
@@ -42,7 +41,38 @@ pub isnt : {b : Bool} {P : Type 0} → Means b P → Means (not b) (¬ P)
 isnt {b = true} w = (no, λ h. absurd (h (w .0 refl)))
 isnt {b = false} w = (λ e p. no (w .1 p), λ h. refl)
 
+pub never : Means false ⊥
+never = (no, absurd)
+
+pub always : Means true (Unit {0})
+always = (λ e. tt, λ h. refl)
+
+-- a test that says no, before others
+pub passed : {b c : Bool} {P : Type 0} → b ≡ false → Means c P → Means (both (not b) c) P
+passed e w = rw e w
+
+pub skipped : {b c : Bool} {P : Type 0} → b ≡ false → Means c P → Means (either b c) P
+skipped e w = rw e w
+
+-- another test of the same outcome
+pub likewise : {b c : Bool} {P : Type 0} → b ≡ c → Means c P → Means b P
+likewise e w = rw e w
+
+pub twice : {b : Bool} {P : Type 0} → Means b P → Means (not (not b)) P
+twice {b = true} w = w
+twice {b = false} w = w
+
+-- the tests behind it do not matter
+pub alone : {b : Bool} {P : Type 0} → Means b P → (c : Bool) → Means (either b (both c false)) P
+alone {b = true} w c = w
+alone {b = false} w true = w
+alone {b = false} w false = w
+
 -- no test is left
+pub only : {b : Bool} {P : Type 0} → Means b P → Means (either b false) P
+only {b = true} w = w
+only {b = false} w = w
+
 pub last : {b : Bool} {P : Type 0} → Means b P → Means (both b true) P
 last {b = true} w = w
 last {b = false} w = w
@@ -57,17 +87,18 @@ pub and : {b c : Bool} {P Q : Type 0} → Means b P → (P → Means c Q) → Me
 and {b = true} w v = (λ e. (w .0 refl, v (w .0 refl) .0 e), λ h. v (h .0) .1 (h .1))
 and {b = false} w v = (no, λ h. w .1 (h .0))
 
+-- the second test matters only where the first says no
+pub otherwise : {b c : Bool} {P Q : Type 0} → Means b P → (¬ P → Means c Q) → Means (either b c) (P ⊎ Q)
+otherwise {b = true} p q = (λ e. inl (p .0 refl), λ h. refl)
+otherwise {b = false} p q = let v = q (λ x. no (p .1 x)) in (λ e. inr (v .0 e), ⊎-elim (λ x. no (p .1 x)) (v .1))
+
 pub or : {b c : Bool} {P Q : Type 0} → Means b P → Means c Q → Means (either b c) (P ⊎ Q)
-or {b = true} p q = (λ e. inl (p .0 refl), λ h. refl)
-or {b = false} p q = (λ e. inr (q .0 e), ⊎-elim (λ x. no (p .1 x)) (q .1))
+or p q = otherwise p (λ _. q)
 
 -- ---- 2 and 3: by computation, at each address and byte, whatever the registers hold
 everywhere : (f g : ℕ → ℕ → Bool) → upFrom (λ a. upFrom (f a) 0 256) 0 64 ≡ upFrom (λ a. upFrom (g a) 0 256) 0 64
     → (a b : ℕ) → a < 64 → b < 256 → f a b ≡ g a b
-everywhere f g e a b h k =
-    let row : upFrom (f a) 0 256 ≡ upFrom (g a) 0 256 =
-    sym (entry (λ c. upFrom (f c) 0 256) [] 64 a h) ∙ ap (λ (l : List (List Bool)). getD l a []) e ∙ entry (λ c. upFrom (g c) 0 256) [] 64 a h in
-    sym (entry (f a) false 256 b k) ∙ ap (λ (l : List Bool). getD l b false) row ∙ entry (g a) false 256 b k
+everywhere f g e a b h k = alike (f a) (g a) 256 (alike (λ c. upFrom (f c) 0 256) (λ c. upFrom (g c) 0 256) 64 e a h) b k
 
 pub reserved-is : (regs : List ℕ) (a b : ℕ) → a < 64 → b < 256 → reservedCode regs a b ≡ isReservedWrite a b
 unfolding reservedCode rangeOf modeOf isReservedWrite

@@ -3,9 +3,9 @@ use benchlog::CycleEntry;
 use benchlog::Entry;
 use benchlog::WriteEntry;
 use benchlog::room_number_of;
-use benchlog::write_entry;
-use benchlog::write_version;
 use libc::STDOUT_FILENO;
+use logwriter::write_entry;
+use logwriter::write_version;
 
 // The last decimal digit of a number.
 fn digit(n: u16) -> u8 {

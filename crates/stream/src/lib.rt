@@ -1,7 +1,6 @@
 // Pumps a log from one descriptor through the replay to another. No contract can say what is read or written: this holds two
 // buffers and decides when to read and when to write; every byte of the text is the replay's.
 ghost use Prim.Native.Nat.{_≤_};
-ghost use lib.ListN.{length};
 use playback::Next;
 use playback::Replay;
 use playback::run;
@@ -16,8 +15,15 @@ struct State {
     done: bool,
 }
 
-// Moves the bytes of a buffer between two places to its front, and answers how many they are.
-fn move_forward(buffer: &mut [u8], from: usize, to: usize) -> usize
+// A state with nothing left to do.
+fn done(state: State) -> State {
+    let mut next = state;
+    next.done = true;
+    next
+}
+
+// The bytes of a buffer between two places, which are not used yet, go to its front: how many they are.
+fn keep_rest(buffer: &mut [u8], from: usize, to: usize) -> usize
     ensures { λ r. ⌜ r ≤ to ⌝ }
 {
     if buffer.len() < to {
@@ -36,18 +42,16 @@ fn move_forward(buffer: &mut [u8], from: usize, to: usize) -> usize
 // More of the input behind what is left of it. At its end, what is left is the last part; where it cannot be read, the pump is
 // done, and the text goes no further.
 fn refill(input: i32, state: State, buffer: &mut [u8]) -> State {
-    let kept = move_forward(&mut *buffer, state.from, state.to);
+    let kept = keep_rest(&mut *buffer, state.from, state.to);
     let mut next = state;
     next.from = 0;
     next.to = kept;
     if buffer.len() <= kept {
-        next.done = true;
-        return next;
+        return done(next);
     }
     let got = libc::read(input, &mut buffer[kept..]);
     if got < 0 {
-        next.done = true;
-        return next;
+        return done(next);
     }
     let n = io::count(got, &buffer[kept..]);
     next.last = n == 0;
@@ -55,65 +59,43 @@ fn refill(input: i32, state: State, buffer: &mut [u8]) -> State {
     next
 }
 
-fn is_wait(next: Next) -> bool {
-    match next {
-        Next::Go => false,
-        Next::Wait => true,
-        Next::Full => false,
-        Next::Stop => false,
+// The text up to a place is written: whether it was.
+fn put(output: i32, text: &[u8], end: usize) -> bool {
+    if text.len() < end {
+        return false;
     }
-}
-
-fn is_stop(next: Next) -> bool {
-    match next {
-        Next::Go => false,
-        Next::Wait => false,
-        Next::Full => false,
-        Next::Stop => true,
-    }
+    io::write_all(output, &text[..end])
 }
 
 // One run over what is there, and its text.
 fn turn(input: i32, output: i32, state: State, buffer: &mut [u8], text: &mut [u8]) -> State {
     let from = state.from;
     let to = state.to;
-    let mut next = state;
     if to < from {
-        next.done = true;
-        return next;
+        return done(state);
     }
     if buffer.len() < to {
-        next.done = true;
-        return next;
+        return done(state);
     }
     let replay = state.replay;
     let ran = run(replay, &buffer[from..to], state.last, &mut *text);
-    let after = ran.replay;
-    let why = ran.next;
-    let end = ran.to;
-    next.replay = after;
-    if text.len() < end {
-        next.done = true;
-        return next;
-    }
-    let written = io::write_all(output, &text[..end]);
-    if is_stop(why) {
-        next.done = true;
-        return next;
-    }
-    if !written {
-        next.done = true;
-        return next;
-    }
     if to - from < ran.used {
-        next.done = true;
-        return next;
+        return done(state);
     }
+    let after = ran.replay;
+    let mut next = state;
+    next.replay = after;
     next.from = from + ran.used;
-    if is_wait(why) {
-        return refill(input, next, buffer);
+    if !put(output, &*text, ran.to) {
+        return done(next);
     }
-    next
+    let why = ran.next;
+    match why {
+        Next::Go => next,
+        Next::Wait => refill(input, next, buffer),
+        Next::Full => next,
+        Next::Stop => done(next),
+    }
 }
 
 // The replay of the log at one descriptor, printed to another.

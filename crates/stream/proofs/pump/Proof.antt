@@ -1,4 +1,4 @@
-use Prim.Native.Nat.{_-_, _≤_}
+use Prim.Native.Nat.{_-_}
 use mathlib.Core.Path.{_≡_, sym, _∙_}
 use native.Mathlib.Omega.{arith}
 use lib.ListN.{length}
@@ -27,5 +27,8 @@ pump-spec =
     (λ c. tt)
     (λ c. omega arith)
     (λ c. omega arith)
-    (λ c. (c .before .before .before .before .before .before .before .loop .inv .0 ∙ sym (c .before .before .before .turn .kept .1 .1 .1 .0), c .before .before .before .before .before .before .before .loop .inv .1 ∙ sym (c .before .before .before .turn .kept .1 .1 .1 .1 .0)))
+    (λ c.
+    let turn = c .before .before .before in
+    let l = turn .before .before .before .before .loop in
+    (l .inv .0 ∙ sym (turn .turn .kept .1 .1 .1 .0), l .inv .1 ∙ sym (turn .turn .kept .1 .1 .1 .1 .0)))
     (λ c. tt))

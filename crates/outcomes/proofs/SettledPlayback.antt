@@ -1,0 +1,17 @@
+-- Each public function of playback: its contract, as its source states it, asks nothing of a call and leaves one outcome.
+-- Assumes nothing.
+use mathlib.Core.Path.{refl}
+use Rattle.laws.specs.Outcome.{Settled}
+use Rattle.laws.proofs.Outcome.{settles, meet}
+use Rattle.playback.proofs.Replay.start as start
+use Rattle.playback.proofs.run as run
+use Rattle.outcomes.proofs.Plain.{plain}
+
+start-settled : Settled start.ended (λ M. start.clauses) (λ M. start.spec)
+start-settled = plain (λ κs a s s′. refl)
+
+run-settled : Settled run.ended (λ M. run.clauses) (λ M. run.spec)
+run-settled = settles (λ κs a r r′ s s′ p q. (
+  λ i. record { next = meet (p .next) (q .next) i; replay = meet (p .replay) (q .replay) i; used = meet (p .used) (q .used) i; to = meet (p .text .place) (q .text .place) i },
+  λ i. (tt, (tt, (tt, (meet (p .text .bytes) (q .text .bytes) i, tt)))),
+))
