@@ -13,7 +13,7 @@ use Rattle.motion.specs.declared.Motion.{Motion}
 use Rattle.events.specs.Event.{Event, read, Given, bytes, gives}
 use Rattle.events.specs.Run.{after}
 use Rattle.rules.specs.Rules.{ruled}
-use Rattle.rules.proofs.Registers as rules
+use Rattle.rules.proofs.Reading as rules
 use Rattle.anymotion.specs.InForce.{pointsAsked, isNonLatched, isLatched}
 use Rattle.anymotion.specs.Points.{points}
 use Rattle.anymotion.specs.Status.{isOver, isCalm, isSet, InRow, Came}
