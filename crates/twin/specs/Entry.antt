@@ -18,8 +18,8 @@ use Rattle.benchlog.specs.declared.Found.the-variants.{WrongRecord}
 
 -- "1 write (address, byte; ..), 2 read (address, count; ..), 3 sample (x, y, z .., temperature; ..), 4 cycle start": the event of a
 -- kind, an address, a byte, which is the temperature of a sample, x, y, z, and the count of bytes to read. Any other kind has none.
-abbrev pub events : ℕ → ℕ → ℤ → ℤ → ℤ → ℕ → List (Key (Option Event))
-events address byte x y z count =
+abbrev pub kinds : ℕ → ℕ → ℤ → ℤ → ℤ → ℕ → List (Key (Option Event))
+kinds address byte x y z count =
     writeKind means some (write address byte)
     ∷ readKind means some (read address count)
     ∷ sampleKind means some (sample x y z byte)
@@ -27,7 +27,7 @@ events address byte x y z count =
     ∷ []
 
 unfoldable pub asked : ℕ → ℕ → ℕ → ℤ → ℤ → ℤ → ℕ → Option Event
-asked kind address byte x y z count = meaningOf (events address byte x y z count) none kind
+asked kind address byte x y z count = meaningOf (kinds address byte x y z count) none kind
 
 -- its number; without an event 8, "record length or kind wrong", and nothing changes
 abbrev pub numberAt : Device → Option Event → ℕ

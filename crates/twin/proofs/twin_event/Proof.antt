@@ -23,7 +23,7 @@ use prog.Wp.{Heap, Env, Calls, Loops, Wp, WpFn, afterSeq}
 use ghost.Atoms.{Atoms, sem}
 use contract.Monad.{Fun, fact}
 use contract.Running.{givenOf, tables}
-use types.Kit.{Given, Item, Go, Seq, runs, anyQ, post, atRet, ‵, ⋆, raw, _⊛_, some as exists, later, _$_, _∵_, !, qed, by, move, keep, drop, use1, use3, split, join, pick, fsplit, fsplit3, fjoin, fjoin3, feqL, feqI, suffices, frame, await, rewrite, done}
+use types.Kit.{Given, Item, Go, Seq, runs, anyQ, post, atRet, ‵, ⋆, raw, _⊛_, some as exists, later, _$_, _∵_, !, qed, by, move, keep, drop, use0, use1, use3, split, join, pick, fsplit, fsplit3, fjoin, fjoin3, feqL, feqI, suffices, frame, await, rewrite, done}
 use types.Run.{look, look-raw, init, store-raw, forget, stop, hop, fld, from, load, lit, addr, of-opd, assigns, assigns-last, and-then, no-more, first, switches, exec, land, land-last, returns, enter, alloc1, alloc0, params1, pass1, pass0}
 use types.Part.{agg, whole, sub, look-in}
 use types.SemTy.{Body}
@@ -41,7 +41,7 @@ use denote.Steps.{owned, facts, heard, nothing, only}
 use denote.Struct.Laws as LL
 use denote.Enum.Laws as EL
 use denote.Triple.Statement.{Contract, Triple}
-use denote.Triple.Call.{calls-at, calls-at-last}
+use denote.Triple.Call.{calls-at}
 use denote.Triple.Entry.{onEntry}
 use denote.Triple.Spec.{tripleOf}
 use denote.Triple.Table.{cited}
@@ -61,7 +61,6 @@ use Rattle.device.specs.Read.{bufferAfter}
 use Rattle.device.specs.declared.Device.{Device}
 use Rattle.device.specs.declared.Answered.{Answered}
 use Rattle.device.proofs.Device as T
-use Rattle.device.proofs.Device.Laws as T′
 use Rattle.device.proofs.Answered as S
 use Rattle.device.proofs.Answered.Laws as S′
 use Rattle.device.proofs.Device.write as write-of
@@ -81,8 +80,8 @@ use Rattle.device.proofs.Device.start_cycle.Symbol as cycle-def
 use Rattle.device.proofs.Device.start_cycle.Symbol.{name as #cycle}
 use Rattle.device.proofs.Device.start_cycle.Met as cycle-thm
 use Rattle.events.specs.Event.{Event, write, read, sample, cycle, happens}
-use Rattle.twin.specs.Entry.{events, asked, numberAt, deviceAt, lentBy, lentAt}
-use Rattle.twin.proofs.Walk.{dev, opens-device, closes-device, typed-device, has8, has16, keeps-slice, gives-back, told, alone, envOf, cellsOf, frees-all, armsOf, armAt, proved-by}
+use Rattle.twin.specs.Entry.{kinds, asked, numberAt, deviceAt, lentBy, lentAt}
+use Rattle.twin.proofs.Walk.{dev, opens-device, closes-device, typed-device, has8, has16, keeps-slice, had-device, alone, asks, asks-last, envOf, cellsOf, frees-all, armsOf, armAt, proved-by}
 use Rattle.twin.proofs.twin_event.Key.{name as #twin-event}
 use Rattle.twin.proofs.twin_event as f
 use Rattle.twin.proofs.twin_event.Statement as stated
@@ -213,10 +212,10 @@ module _ {M : Type 1} (𝓤 : URA M) (H : Heap 𝓤) (A : Atoms 𝓤) (W : Given
   abbrev to-write : Write 𝓤 H A at-mem run .Ghost
   to-write = ((tt, tt, tt, (h, (e .address, (e .byte, tt))), (dev h ∷ [], (vint w8 (e .address) ∷ [], (vint w8 (e .byte) ∷ [], tt)))), tt)
 
-  goes-write : ent 𝓤 (sem 𝓤 H A (T.the-row .own h (dev h ∷ []))) (Write 𝓤 H A at-mem run .pre to-write)
-  goes-write =
-      qed W (‵ (T.the-row .own h (dev h ∷ [])) ∷ []) ∵ nothing ! $ has8 ! (e .byte) (e .byte-fits) $ join ! $ has8 ! (e .address) (e .address-fits) $ join ! $
-      move ! (1 ∷ 0 ∷ []) $ join ! $ nothing ! $ join ! $ frame ! $ done !
+  goes-write : Is T.the-row h (dev h ∷ []) → ent 𝓤 (emp 𝓤) (Write 𝓤 H A at-mem run .pre to-write)
+  goes-write was =
+      qed W [] ∵ nothing ! $ has8 ! (e .byte) (e .byte-fits) $ join ! $ has8 ! (e .address) (e .address-fits) $ join ! $
+      use0 W (‵ (T.the-row .own h (dev h ∷ []))) (had-device 𝓤 H A h _ was) $ join ! $ nothing ! $ join ! $ frame ! $ done !
 
   abbrev to-read : Read 𝓤 H A at-mem run .Ghost
   to-read = (((κ′, tt), (q′, tt), tt, (h, (e .address, (buffer, tt))), (dev h ∷ [], (vint w8 (e .address) ∷ [], (s ∷ [], tt)))), tt)
@@ -229,16 +228,22 @@ module _ {M : Type 1} (𝓤 : URA M) (H : Heap 𝓤) (A : Atoms 𝓤) (W : Given
   abbrev to-sample : Sample 𝓤 H A at-mem run .Ghost
   to-sample = ((tt, tt, tt, (h, (e .x, (e .y, (e .z, (e .byte, tt))))), (dev h ∷ [], (bits (e .x) ∷ [], (bits (e .y) ∷ [], (bits (e .z) ∷ [], (vint w8 (e .byte) ∷ [], tt)))))), tt)
 
-  goes-sample : ent 𝓤 (sem 𝓤 H A (T.the-row .own h (dev h ∷ []))) (Sample 𝓤 H A at-mem run .pre to-sample)
-  goes-sample =
-      qed W (‵ (T.the-row .own h (dev h ∷ [])) ∷ []) ∵ nothing ! $ has8 ! (e .byte) (e .byte-fits) $ join ! $ has16 ! (e .z) (e .z-fits) $ join ! $ has16 ! (e .y) (e .y-fits) $ join ! $
-      has16 ! (e .x) (e .x-fits) $ join ! $ move ! (1 ∷ 0 ∷ []) $ join ! $ nothing ! $ join ! $ frame ! $ done !
+  goes-sample : Is T.the-row h (dev h ∷ []) → ent 𝓤 (emp 𝓤) (Sample 𝓤 H A at-mem run .pre to-sample)
+  goes-sample was =
+      qed W [] ∵ nothing ! $ has8 ! (e .byte) (e .byte-fits) $ join ! $ has16 ! (e .z) (e .z-fits) $ join ! $ has16 ! (e .y) (e .y-fits) $ join ! $ has16 ! (e .x) (e .x-fits) $ join ! $
+      use0 W (‵ (T.the-row .own h (dev h ∷ []))) (had-device 𝓤 H A h _ was) $ join ! $ nothing ! $ join ! $ frame ! $ done !
 
   abbrev to-cycle : Cycle 𝓤 H A at-mem run .Ghost
   to-cycle = ((tt, tt, tt, (h, tt), (dev h ∷ [], tt)), tt)
 
+  goes-cycle : Is T.the-row h (dev h ∷ []) → ent 𝓤 (emp 𝓤) (Cycle 𝓤 H A at-mem run .pre to-cycle)
+  goes-cycle was = alone 𝓤 H A W T.the-row h _ (had-device 𝓤 H A h _ was)
+
   abbrev to-number : Answer → Number 𝓤 H A at-mem run .Ghost
   to-number r = ((tt, tt, tt, (r, tt), (ans r ∷ [], tt)), tt)
+
+  goes-number : (r : Answered) (v : Val) → Is S.the-row r (v ∷ []) → ent 𝓤 (emp 𝓤) (Number 𝓤 H A at-mem run .pre (to-number (r .answer)))
+  goes-number r v is = alone 𝓤 H A W N.the-row (r .answer) _ (EL.makes N.the-type N′.the-plain 𝓤 H A (r .answer) _ (answer-is r v is))
 
   module _ (C : Calls 𝓤 H) (Λ : Loops 𝓤 H) (fmc : FmC 𝓤 H (W .laws) C) (known : Known 𝓤 H A at-mem run C) where
     -- what follows the switch: the number is returned, and the locals are freed
@@ -273,98 +278,84 @@ module _ {M : Type 1} (𝓤 : URA M) (H : Heap 𝓤) (A : Atoms 𝓤) (W : Given
       unfolding asked
       write-arm k =
           move ! (3 ∷ []) $ keeps-slice ! (named 1) κ′ buffer (s ∷ []) $ move ! (1 ∷ 2 ∷ 3 ∷ []) $ opens-device ! tt h b o (λ was.
-            -- [the device's cell; the open borrow; obs; auth; the last list; the slice's token; room for _19; …; _1; …; room for _0; …]
-            assigns ! (of-opd ! (load ! (from ! (hop ! (look ! 42 refl) (stop !))) (look-raw ! 0 refl))) (from ! (stop !)) (init ! 16 refl (typed-device W h _ was .0)) $
-            owned ! T.the-row (Is T.the-row) (LL.makes T.the-type T′.the-plain 𝓤 H A) h _ was $ use1 W (raw (Write 𝓤 H A at-mem run .pre to-write)) goes-write $
-            calls-at ! fmc (Write 𝓤 H A at-mem run) (known .writes) to-write (and-then ! (load ! (from ! (stop !)) (look ! 17 refl)) (and-then ! (load ! (from ! (stop !)) (look ! 39 refl)) (and-then ! (load ! (from ! (stop !)) (look ! 37 refl)) (no-more !)))) (λ v.
-            gives-back ! tt S.the-row (λ r. r ≡ happens h (write (e .address) (e .byte))) (ensured 𝓤 H A write-of.ended (write-of.clauses 𝓤 H A at-mem run) tt (h, (e .address, (e .byte, tt))) tt)
-            (λ r. told 𝓤 H A write-of.ended (write-of.clauses 𝓤 H A at-mem run) tt (h, (e .address, (e .byte, tt))) tt r (r ≡ happens h (write (e .address) (e .byte))) (λ ws. id⊢ 𝓤 _)) v (λ r t is.
-            land ! (from ! (stop !)) (init ! 26 refl (LL.lawful S.the-type S′.the-laws 𝓤 H A W .typed r _ is .0)) $
-            rewrite ! 26 (λ (u : Val). ‵ (fat fullShare S′.mir l₉ 0 u)) (ap only (LL.tells S.the-type S′.the-laws r (v ∷ []) is)) refl $
-            assigns ! (of-opd ! (load ! (from ! (fld ! refl (stop !))) (look-in ! 26 (sub ! 1 refl (whole !))))) (from ! (hop ! (look ! 42 refl) (stop !))) (store-raw ! 0 refl (typed-device W (r .device) _ (device-is r v is) .0)) $
-            closes-device ! tt (r .device) (dev (r .device) ∷ []) (device-is r v is) b o $
-            owned ! N.the-row (Is N.the-row) (EL.makes N.the-type N′.the-plain 𝓤 H A) (r .answer) _ (answer-is r v is) $ use1 W (raw (Number 𝓤 H A at-mem run .pre (to-number (r .answer)))) (alone 𝓤 H A W N.the-row (r .answer) _) $
-            calls-at-last ! fmc (Number 𝓤 H A at-mem run) (known .numbers) (to-number (r .answer)) (and-then ! (load ! (from ! (fld ! refl (stop !))) (look-in ! 26 (sub ! 0 refl (whole !)))) (no-more !)) (λ u.
-            gives-back ! tt u8 (λ n. n ≡ number (r .answer)) (ensured 𝓤 H A number-of.ended (number-of.clauses 𝓤 H A at-mem run) tt (r .answer, tt) tt)
-            (λ n. told 𝓤 H A number-of.ended (number-of.clauses 𝓤 H A at-mem run) tt (r .answer, tt) tt n (n ≡ number (r .answer)) (λ ws. id⊢ 𝓤 _)) u (λ n p small.
-            land-last ! (from ! (stop !)) (init ! 17 refl (uint-lawful 𝓤 H A W w8 .typed n _ small .0)) $ forget ! 25 refl $ forget ! 15 refl $
-            by ! (ends n u small (r .device) ys refl (said h e ys (write (e .address) (e .byte)) (kinded h e ys 1 k) r t n p ys refl)))))))
+          -- [the device's cell; the open borrow; obs; auth; the last list; the slice's token; room for _19; …; _1; …; room for _0; …]
+          assigns ! (of-opd ! (load ! (from ! (hop ! (look ! 42 refl) (stop !))) (look-raw ! 0 refl))) (from ! (stop !)) (init ! 16 refl (typed-device W h _ was .0)) $
+          asks ! fmc write-of.ended (write-of.clauses 𝓤 H A at-mem run) (known .writes) to-write (goes-write was) (and-then ! (load ! (from ! (stop !)) (look ! 17 refl)) (and-then ! (load ! (from ! (stop !)) (look ! 39 refl)) (and-then ! (load ! (from ! (stop !)) (look ! 37 refl)) (no-more !))))
+          (λ r. r ≡ happens h (write (e .address) (e .byte))) (λ r ws. id⊢ 𝓤 _) (λ v r t is.
+          land ! (from ! (stop !)) (init ! 26 refl (LL.lawful S.the-type S′.the-laws 𝓤 H A W .typed r _ is .0)) $
+          rewrite ! 26 (λ (u : Val). ‵ (fat fullShare S′.mir l₉ 0 u)) (ap only (LL.tells S.the-type S′.the-laws r (v ∷ []) is)) refl $
+          assigns ! (of-opd ! (load ! (from ! (fld ! refl (stop !))) (look-in ! 26 (sub ! 1 refl (whole !))))) (from ! (hop ! (look ! 42 refl) (stop !))) (store-raw ! 0 refl (typed-device W (r .device) _ (device-is r v is) .0)) $
+          closes-device ! tt (r .device) (dev (r .device) ∷ []) (device-is r v is) b o $
+          asks-last ! fmc number-of.ended (number-of.clauses 𝓤 H A at-mem run) (known .numbers) (to-number (r .answer)) (goes-number r v is) (and-then ! (load ! (from ! (fld ! refl (stop !))) (look-in ! 26 (sub ! 0 refl (whole !)))) (no-more !))
+          (λ n. n ≡ number (r .answer)) (λ n ws. id⊢ 𝓤 _) (λ u n p small.
+          land-last ! (from ! (stop !)) (init ! 17 refl (uint-lawful 𝓤 H A W w8 .typed n _ small .0)) $ forget ! 25 refl $ forget ! 15 refl $
+          by ! (ends n u small (r .device) ys refl (said h e ys (write (e .address) (e .byte)) (kinded h e ys 1 k) r t n p ys refl)))))
 
       read-arm : Room u8 (length ys) → e .kind ≡ 2 → Arm 1
       unfolding asked
       read-arm room k =
           opens-device ! tt h b o (λ was.
-            -- [the device's cell; the open borrow; obs; auth; what the slice owns; its token; room for _19; …; _1; …; room for _0; …]
-            assigns ! (of-opd ! (load ! (from ! (hop ! (look ! 42 refl) (stop !))) (look-raw ! 0 refl))) (from ! (stop !)) (init ! 14 refl (typed-device W h _ was .0)) $
-            assigns ! (addr ! (from ! (fld ! refl (hop ! (look-in ! 28 (sub ! 0 refl (whole !))) (stop !))))) (from ! (stop !)) (init ! 12 refl (tt, tt)) $
-            assigns ! (agg ! (and-then ! (load ! (from ! (stop !)) (look ! 12 refl)) (and-then ! (load ! (from ! (fld ! refl (stop !))) (look-in ! 28 (sub ! 1 refl (whole !)))) (no-more !)))) (from ! (stop !)) (init ! 10 refl (tt, (tt, (record { fits = room .0 }, tt)))) $
-            owned ! T.the-row (Is T.the-row) (LL.makes T.the-type T′.the-plain 𝓤 H A) h _ was $ move ! (6 ∷ 5 ∷ 0 ∷ []) $ use3 W (raw (Read 𝓤 H A at-mem run .pre to-read)) goes-read $
-            calls-at ! fmc (Read 𝓤 H A at-mem run) (known .reads) to-read (and-then ! (load ! (from ! (stop !)) (look ! 13 refl)) (and-then ! (load ! (from ! (stop !)) (look ! 37 refl)) (and-then ! (load ! (from ! (stop !)) (look ! 9 refl)) (no-more !)))) (λ v.
-            use1 W (later (exists (λ (r : Answered). ((‵ (flft κ′ q′) ⊛ ‵ ftrue) ⊛ ‵ (S.the-row .own r (v ∷ []))) ⊛ raw (ensured 𝓤 H A read-of.ended (read-of.clauses 𝓤 H A at-mem run) (κ′, tt) (h, (e .address, (buffer, tt))) tt r)))) (id⊢ 𝓤 _) $ await ! tt $ pick ! (λ r.
-            -- what `read` ensures, at some last list
-            split ! $ move ! (1 ∷ []) $ use1 W (exists (λ (zs : Ends). ‵ (lasts read-of.ended (κ′, tt) (h, (e .address, (buffer, tt))) zs) ⊛ raw (fact 𝓤 ((r ≡ happens h (read (e .address) (length ys))) × (zs .1 .1 .0 ≡ bufferAfter h (e .address) ys))))) (id⊢ 𝓤 _) $ pick ! (λ zs.
-            split ! $ move ! (1 ∷ []) $ heard ! ((r ≡ happens h (read (e .address) (length ys))) × (zs .1 .1 .0 ≡ bufferAfter h (e .address) ys)) (λ t. fsplit ! $ drop ! $ fsplit ! $ drop ! $ fsplit ! $ fsplit ! $ move ! (1 ∷ []) $ feqL ! (λ l.
-            -- [the last list; true; the token and the result; the device's cell; …]
-            move ! (2 ∷ []) $ split ! $ move ! (1 ∷ []) $ facts ! S.the-row (Is S.the-row) (shows 𝓤 H A S.the-row) r (v ∷ []) (λ is. move ! (2 ∷ []) $ drop ! $ move ! (2 ∷ 3 ∷ 4 ∷ 5 ∷ 1 ∷ 0 ∷ []) $
-            land ! (from ! (stop !)) (init ! 24 refl (LL.lawful S.the-type S′.the-laws 𝓤 H A W .typed r _ is .0)) $
-            rewrite ! 24 (λ (u : Val). ‵ (fat fullShare S′.mir l₁₀ 0 u)) (ap only (LL.tells S.the-type S′.the-laws r (v ∷ []) is)) refl $
-            assigns ! (of-opd ! (load ! (from ! (fld ! refl (stop !))) (look-in ! 24 (sub ! 1 refl (whole !))))) (from ! (hop ! (look ! 42 refl) (stop !))) (store-raw ! 0 refl (typed-device W (r .device) _ (device-is r v is) .0)) $
-            closes-device ! tt (r .device) (dev (r .device) ∷ []) (device-is r v is) b o $
-            owned ! N.the-row (Is N.the-row) (EL.makes N.the-type N′.the-plain 𝓤 H A) (r .answer) _ (answer-is r v is) $ use1 W (raw (Number 𝓤 H A at-mem run .pre (to-number (r .answer)))) (alone 𝓤 H A W N.the-row (r .answer) _) $
-            calls-at-last ! fmc (Number 𝓤 H A at-mem run) (known .numbers) (to-number (r .answer)) (and-then ! (load ! (from ! (fld ! refl (stop !))) (look-in ! 24 (sub ! 0 refl (whole !)))) (no-more !)) (λ u.
-            gives-back ! tt u8 (λ n. n ≡ number (r .answer)) (ensured 𝓤 H A number-of.ended (number-of.clauses 𝓤 H A at-mem run) tt (r .answer, tt) tt)
-            (λ n. told 𝓤 H A number-of.ended (number-of.clauses 𝓤 H A at-mem run) tt (r .answer, tt) tt n (n ≡ number (r .answer)) (λ ws. id⊢ 𝓤 _)) u (λ n p small.
-            land-last ! (from ! (stop !)) (init ! 17 refl (uint-lawful 𝓤 H A W w8 .typed n _ small .0)) $ forget ! 23 refl $ forget ! 13 refl $ forget ! 11 refl $ forget ! 9 refl $
-            by ! (ends n u small (r .device) (zs .1 .1 .0) l (said h e ys (read (e .address) (length ys)) (kinded h e ys 2 k) r (t .0) n p (zs .1 .1 .0) (t .1))))))))))))
+          -- [the device's cell; the open borrow; obs; auth; what the slice owns; its token; room for _19; …; _1; …; room for _0; …]
+          assigns ! (of-opd ! (load ! (from ! (hop ! (look ! 42 refl) (stop !))) (look-raw ! 0 refl))) (from ! (stop !)) (init ! 14 refl (typed-device W h _ was .0)) $
+          assigns ! (addr ! (from ! (fld ! refl (hop ! (look-in ! 28 (sub ! 0 refl (whole !))) (stop !))))) (from ! (stop !)) (init ! 12 refl (tt, tt)) $
+          assigns ! (agg ! (and-then ! (load ! (from ! (stop !)) (look ! 12 refl)) (and-then ! (load ! (from ! (fld ! refl (stop !))) (look-in ! 28 (sub ! 1 refl (whole !)))) (no-more !)))) (from ! (stop !)) (init ! 10 refl (tt, (tt, (record { fits = room .0 }, tt)))) $
+          use0 W (‵ (T.the-row .own h (dev h ∷ []))) (had-device 𝓤 H A h _ was) $ move ! (6 ∷ 5 ∷ 0 ∷ []) $ use3 W (raw (Read 𝓤 H A at-mem run .pre to-read)) goes-read $
+          calls-at ! fmc (Read 𝓤 H A at-mem run) (known .reads) to-read (and-then ! (load ! (from ! (stop !)) (look ! 13 refl)) (and-then ! (load ! (from ! (stop !)) (look ! 37 refl)) (and-then ! (load ! (from ! (stop !)) (look ! 9 refl)) (no-more !)))) (λ v.
+          use1 W (later (exists (λ (r : Answered). ((‵ (flft κ′ q′) ⊛ ‵ ftrue) ⊛ ‵ (S.the-row .own r (v ∷ []))) ⊛ raw (ensured 𝓤 H A read-of.ended (read-of.clauses 𝓤 H A at-mem run) (κ′, tt) (h, (e .address, (buffer, tt))) tt r)))) (id⊢ 𝓤 _) $ await ! tt $ pick ! (λ r.
+          -- what `read` ensures, at some last list
+          split ! $ move ! (1 ∷ []) $ use1 W (exists (λ (zs : Ends). ‵ (lasts read-of.ended (κ′, tt) (h, (e .address, (buffer, tt))) zs) ⊛ raw (fact 𝓤 ((r ≡ happens h (read (e .address) (length ys))) × (zs .1 .1 .0 ≡ bufferAfter h (e .address) ys))))) (id⊢ 𝓤 _) $ pick ! (λ zs.
+          split ! $ move ! (1 ∷ []) $ heard ! ((r ≡ happens h (read (e .address) (length ys))) × (zs .1 .1 .0 ≡ bufferAfter h (e .address) ys)) (λ t. fsplit ! $ drop ! $ fsplit ! $ drop ! $ fsplit ! $ fsplit ! $ move ! (1 ∷ []) $ feqL ! (λ l.
+          -- [the last list; true; the token and the result; the device's cell; …]
+          move ! (2 ∷ []) $ split ! $ move ! (1 ∷ []) $ facts ! S.the-row (Is S.the-row) (shows 𝓤 H A S.the-row) r (v ∷ []) (λ is. move ! (2 ∷ []) $ drop ! $ move ! (2 ∷ 3 ∷ 4 ∷ 5 ∷ 1 ∷ 0 ∷ []) $
+          land ! (from ! (stop !)) (init ! 24 refl (LL.lawful S.the-type S′.the-laws 𝓤 H A W .typed r _ is .0)) $
+          rewrite ! 24 (λ (u : Val). ‵ (fat fullShare S′.mir l₁₀ 0 u)) (ap only (LL.tells S.the-type S′.the-laws r (v ∷ []) is)) refl $
+          assigns ! (of-opd ! (load ! (from ! (fld ! refl (stop !))) (look-in ! 24 (sub ! 1 refl (whole !))))) (from ! (hop ! (look ! 42 refl) (stop !))) (store-raw ! 0 refl (typed-device W (r .device) _ (device-is r v is) .0)) $
+          closes-device ! tt (r .device) (dev (r .device) ∷ []) (device-is r v is) b o $
+          asks-last ! fmc number-of.ended (number-of.clauses 𝓤 H A at-mem run) (known .numbers) (to-number (r .answer)) (goes-number r v is) (and-then ! (load ! (from ! (fld ! refl (stop !))) (look-in ! 24 (sub ! 0 refl (whole !)))) (no-more !))
+          (λ n. n ≡ number (r .answer)) (λ n ws. id⊢ 𝓤 _) (λ u n p small.
+          land-last ! (from ! (stop !)) (init ! 17 refl (uint-lawful 𝓤 H A W w8 .typed n _ small .0)) $ forget ! 23 refl $ forget ! 13 refl $ forget ! 11 refl $ forget ! 9 refl $
+          by ! (ends n u small (r .device) (zs .1 .1 .0) l (said h e ys (read (e .address) (length ys)) (kinded h e ys 2 k) r (t .0) n p (zs .1 .1 .0) (t .1)))))))))))
 
       sample-arm : e .kind ≡ 3 → Arm 2
       unfolding asked
       sample-arm k =
           move ! (3 ∷ []) $ keeps-slice ! (named 1) κ′ buffer (s ∷ []) $ move ! (1 ∷ 2 ∷ 3 ∷ []) $ opens-device ! tt h b o (λ was.
-            -- [the device's cell; the open borrow; obs; auth; the last list; the slice's token; room for _19; …; _1; …; room for _0; …]
-            assigns ! (of-opd ! (load ! (from ! (hop ! (look ! 42 refl) (stop !))) (look-raw ! 0 refl))) (from ! (stop !)) (init ! 8 refl (typed-device W h _ was .0)) $
-            owned ! T.the-row (Is T.the-row) (LL.makes T.the-type T′.the-plain 𝓤 H A) h _ was $ use1 W (raw (Sample 𝓤 H A at-mem run .pre to-sample)) goes-sample $
-            calls-at ! fmc (Sample 𝓤 H A at-mem run) (known .samples) to-sample (and-then ! (load ! (from ! (stop !)) (look ! 9 refl)) (and-then ! (load ! (from ! (stop !)) (look ! 35 refl)) (and-then ! (load ! (from ! (stop !)) (look ! 33 refl)) (and-then ! (load ! (from ! (stop !)) (look ! 31 refl)) (and-then ! (load ! (from ! (stop !)) (look ! 37 refl)) (no-more !)))))) (λ v.
-            gives-back ! tt S.the-row (λ r. r ≡ happens h (sample (e .x) (e .y) (e .z) (e .byte))) (ensured 𝓤 H A sample-of.ended (sample-of.clauses 𝓤 H A at-mem run) tt (h, (e .x, (e .y, (e .z, (e .byte, tt))))) tt)
-            (λ r. told 𝓤 H A sample-of.ended (sample-of.clauses 𝓤 H A at-mem run) tt (h, (e .x, (e .y, (e .z, (e .byte, tt))))) tt r (r ≡ happens h (sample (e .x) (e .y) (e .z) (e .byte))) (λ ws. id⊢ 𝓤 _)) v (λ r t is.
-            land ! (from ! (stop !)) (init ! 22 refl (LL.lawful S.the-type S′.the-laws 𝓤 H A W .typed r _ is .0)) $
-            rewrite ! 22 (λ (u : Val). ‵ (fat fullShare S′.mir l₁₁ 0 u)) (ap only (LL.tells S.the-type S′.the-laws r (v ∷ []) is)) refl $
-            assigns ! (of-opd ! (load ! (from ! (fld ! refl (stop !))) (look-in ! 22 (sub ! 1 refl (whole !))))) (from ! (hop ! (look ! 42 refl) (stop !))) (store-raw ! 0 refl (typed-device W (r .device) _ (device-is r v is) .0)) $
-            closes-device ! tt (r .device) (dev (r .device) ∷ []) (device-is r v is) b o $
-            owned ! N.the-row (Is N.the-row) (EL.makes N.the-type N′.the-plain 𝓤 H A) (r .answer) _ (answer-is r v is) $ use1 W (raw (Number 𝓤 H A at-mem run .pre (to-number (r .answer)))) (alone 𝓤 H A W N.the-row (r .answer) _) $
-            calls-at-last ! fmc (Number 𝓤 H A at-mem run) (known .numbers) (to-number (r .answer)) (and-then ! (load ! (from ! (fld ! refl (stop !))) (look-in ! 22 (sub ! 0 refl (whole !)))) (no-more !)) (λ u.
-            gives-back ! tt u8 (λ n. n ≡ number (r .answer)) (ensured 𝓤 H A number-of.ended (number-of.clauses 𝓤 H A at-mem run) tt (r .answer, tt) tt)
-            (λ n. told 𝓤 H A number-of.ended (number-of.clauses 𝓤 H A at-mem run) tt (r .answer, tt) tt n (n ≡ number (r .answer)) (λ ws. id⊢ 𝓤 _)) u (λ n p small.
-            land-last ! (from ! (stop !)) (init ! 17 refl (uint-lawful 𝓤 H A W w8 .typed n _ small .0)) $ forget ! 21 refl $ forget ! 7 refl $
-            by ! (ends n u small (r .device) ys refl (said h e ys (sample (e .x) (e .y) (e .z) (e .byte)) (kinded h e ys 3 k) r t n p ys refl)))))))
+          -- [the device's cell; the open borrow; obs; auth; the last list; the slice's token; room for _19; …; _1; …; room for _0; …]
+          assigns ! (of-opd ! (load ! (from ! (hop ! (look ! 42 refl) (stop !))) (look-raw ! 0 refl))) (from ! (stop !)) (init ! 8 refl (typed-device W h _ was .0)) $
+          asks ! fmc sample-of.ended (sample-of.clauses 𝓤 H A at-mem run) (known .samples) to-sample (goes-sample was) (and-then ! (load ! (from ! (stop !)) (look ! 9 refl)) (and-then ! (load ! (from ! (stop !)) (look ! 35 refl)) (and-then ! (load ! (from ! (stop !)) (look ! 33 refl)) (and-then ! (load ! (from ! (stop !)) (look ! 31 refl)) (and-then ! (load ! (from ! (stop !)) (look ! 37 refl)) (no-more !))))))
+          (λ r. r ≡ happens h (sample (e .x) (e .y) (e .z) (e .byte))) (λ r ws. id⊢ 𝓤 _) (λ v r t is.
+          land ! (from ! (stop !)) (init ! 22 refl (LL.lawful S.the-type S′.the-laws 𝓤 H A W .typed r _ is .0)) $
+          rewrite ! 22 (λ (u : Val). ‵ (fat fullShare S′.mir l₁₁ 0 u)) (ap only (LL.tells S.the-type S′.the-laws r (v ∷ []) is)) refl $
+          assigns ! (of-opd ! (load ! (from ! (fld ! refl (stop !))) (look-in ! 22 (sub ! 1 refl (whole !))))) (from ! (hop ! (look ! 42 refl) (stop !))) (store-raw ! 0 refl (typed-device W (r .device) _ (device-is r v is) .0)) $
+          closes-device ! tt (r .device) (dev (r .device) ∷ []) (device-is r v is) b o $
+          asks-last ! fmc number-of.ended (number-of.clauses 𝓤 H A at-mem run) (known .numbers) (to-number (r .answer)) (goes-number r v is) (and-then ! (load ! (from ! (fld ! refl (stop !))) (look-in ! 22 (sub ! 0 refl (whole !)))) (no-more !))
+          (λ n. n ≡ number (r .answer)) (λ n ws. id⊢ 𝓤 _) (λ u n p small.
+          land-last ! (from ! (stop !)) (init ! 17 refl (uint-lawful 𝓤 H A W w8 .typed n _ small .0)) $ forget ! 21 refl $ forget ! 7 refl $
+          by ! (ends n u small (r .device) ys refl (said h e ys (sample (e .x) (e .y) (e .z) (e .byte)) (kinded h e ys 3 k) r t n p ys refl)))))
 
       cycle-arm : e .kind ≡ 4 → Arm 3
       unfolding asked
       cycle-arm k =
           move ! (3 ∷ []) $ keeps-slice ! (named 1) κ′ buffer (s ∷ []) $ move ! (1 ∷ 2 ∷ 3 ∷ []) $ opens-device ! tt h b o (λ was.
-            -- [the device's cell; the open borrow; obs; auth; the last list; the slice's token; room for _19; …; _1; …; room for _0; …]
-            assigns ! (of-opd ! (load ! (from ! (hop ! (look ! 42 refl) (stop !))) (look-raw ! 0 refl))) (from ! (stop !)) (init ! 6 refl (typed-device W h _ was .0)) $
-            owned ! T.the-row (Is T.the-row) (LL.makes T.the-type T′.the-plain 𝓤 H A) h _ was $ use1 W (raw (Cycle 𝓤 H A at-mem run .pre to-cycle)) (alone 𝓤 H A W T.the-row h _) $
-            calls-at ! fmc (Cycle 𝓤 H A at-mem run) (known .cycles) to-cycle (and-then ! (load ! (from ! (stop !)) (look ! 7 refl)) (no-more !)) (λ v.
-            gives-back ! tt S.the-row (λ r. r ≡ happens h (cycle)) (ensured 𝓤 H A cycle-of.ended (cycle-of.clauses 𝓤 H A at-mem run) tt (h, tt) tt)
-            (λ r. told 𝓤 H A cycle-of.ended (cycle-of.clauses 𝓤 H A at-mem run) tt (h, tt) tt r (r ≡ happens h (cycle)) (λ ws. id⊢ 𝓤 _)) v (λ r t is.
-            land ! (from ! (stop !)) (init ! 20 refl (LL.lawful S.the-type S′.the-laws 𝓤 H A W .typed r _ is .0)) $
-            rewrite ! 20 (λ (u : Val). ‵ (fat fullShare S′.mir l₁₂ 0 u)) (ap only (LL.tells S.the-type S′.the-laws r (v ∷ []) is)) refl $
-            assigns ! (of-opd ! (load ! (from ! (fld ! refl (stop !))) (look-in ! 20 (sub ! 1 refl (whole !))))) (from ! (hop ! (look ! 42 refl) (stop !))) (store-raw ! 0 refl (typed-device W (r .device) _ (device-is r v is) .0)) $
-            closes-device ! tt (r .device) (dev (r .device) ∷ []) (device-is r v is) b o $
-            owned ! N.the-row (Is N.the-row) (EL.makes N.the-type N′.the-plain 𝓤 H A) (r .answer) _ (answer-is r v is) $ use1 W (raw (Number 𝓤 H A at-mem run .pre (to-number (r .answer)))) (alone 𝓤 H A W N.the-row (r .answer) _) $
-            calls-at-last ! fmc (Number 𝓤 H A at-mem run) (known .numbers) (to-number (r .answer)) (and-then ! (load ! (from ! (fld ! refl (stop !))) (look-in ! 20 (sub ! 0 refl (whole !)))) (no-more !)) (λ u.
-            gives-back ! tt u8 (λ n. n ≡ number (r .answer)) (ensured 𝓤 H A number-of.ended (number-of.clauses 𝓤 H A at-mem run) tt (r .answer, tt) tt)
-            (λ n. told 𝓤 H A number-of.ended (number-of.clauses 𝓤 H A at-mem run) tt (r .answer, tt) tt n (n ≡ number (r .answer)) (λ ws. id⊢ 𝓤 _)) u (λ n p small.
-            land-last ! (from ! (stop !)) (init ! 17 refl (uint-lawful 𝓤 H A W w8 .typed n _ small .0)) $ forget ! 19 refl $ forget ! 5 refl $
-            by ! (ends n u small (r .device) ys refl (said h e ys (cycle) (kinded h e ys 4 k) r t n p ys refl)))))))
+          -- [the device's cell; the open borrow; obs; auth; the last list; the slice's token; room for _19; …; _1; …; room for _0; …]
+          assigns ! (of-opd ! (load ! (from ! (hop ! (look ! 42 refl) (stop !))) (look-raw ! 0 refl))) (from ! (stop !)) (init ! 6 refl (typed-device W h _ was .0)) $
+          asks ! fmc cycle-of.ended (cycle-of.clauses 𝓤 H A at-mem run) (known .cycles) to-cycle (goes-cycle was) (and-then ! (load ! (from ! (stop !)) (look ! 7 refl)) (no-more !))
+          (λ r. r ≡ happens h (cycle)) (λ r ws. id⊢ 𝓤 _) (λ v r t is.
+          land ! (from ! (stop !)) (init ! 20 refl (LL.lawful S.the-type S′.the-laws 𝓤 H A W .typed r _ is .0)) $
+          rewrite ! 20 (λ (u : Val). ‵ (fat fullShare S′.mir l₁₂ 0 u)) (ap only (LL.tells S.the-type S′.the-laws r (v ∷ []) is)) refl $
+          assigns ! (of-opd ! (load ! (from ! (fld ! refl (stop !))) (look-in ! 20 (sub ! 1 refl (whole !))))) (from ! (hop ! (look ! 42 refl) (stop !))) (store-raw ! 0 refl (typed-device W (r .device) _ (device-is r v is) .0)) $
+          closes-device ! tt (r .device) (dev (r .device) ∷ []) (device-is r v is) b o $
+          asks-last ! fmc number-of.ended (number-of.clauses 𝓤 H A at-mem run) (known .numbers) (to-number (r .answer)) (goes-number r v is) (and-then ! (load ! (from ! (fld ! refl (stop !))) (look-in ! 20 (sub ! 0 refl (whole !)))) (no-more !))
+          (λ n. n ≡ number (r .answer)) (λ n ws. id⊢ 𝓤 _) (λ u n p small.
+          land-last ! (from ! (stop !)) (init ! 17 refl (uint-lawful 𝓤 H A W w8 .typed n _ small .0)) $ forget ! 19 refl $ forget ! 5 refl $
+          by ! (ends n u small (r .device) ys refl (said h e ys (cycle) (kinded h e ys 4 k) r t n p ys refl)))))
 
       other-arm : NoneOf (Unit {0}) (1 ∷ 2 ∷ 3 ∷ 4 ∷ []) (e .kind) → Arm 4
       unfolding asked
       other-arm others =
           move ! (3 ∷ []) $ keeps-slice ! (named 1) κ′ buffer (s ∷ []) $ move ! (1 ∷ 2 ∷ 3 ∷ []) $
-            assigns-last ! (of-opd ! (lit ! tt)) (from ! (stop !)) (init ! 17 refl (tt, record { fits = eight })) $
-            by ! (ends 8 (vint w8 8) (refl, eight) h ys refl (unsaid h e ys (sym (rest (Unit {0}) (events (e .address) (e .byte) (e .x) (e .y) (e .z) (length ys)) none (e .kind) others))))
+          assigns-last ! (of-opd ! (lit ! tt)) (from ! (stop !)) (init ! 17 refl (tt, record { fits = eight })) $
+          by ! (ends 8 (vint w8 8) (refl, eight) h ys refl (unsaid h e ys (sym (rest (Unit {0}) (kinds (e .address) (e .byte) (e .x) (e .y) (e .z) (length ys)) none (e .kind) others))))
 
       matched : Room u8 (length ys) → Seq (Go {0}) W start (runs C Λ E (code.function .body) (atRet E Post))
       matched room = first ! $ switches ! (load ! (from ! (stop !)) (look ! 39 refl)) (write-arm, (read-arm room, (sample-arm, (cycle-arm, other-arm))))

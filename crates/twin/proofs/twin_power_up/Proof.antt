@@ -12,10 +12,10 @@ use base.Fml.{GName, Lft, Share, ftrue, flft, fobs, fbor}
 use prog.Memory.{Memory}
 use prog.Routine.{Routine}
 use prog.Wp.{Heap, Calls, Loops, WpFn}
-use ghost.Atoms.{Atoms, sem}
+use ghost.Atoms.{Atoms}
 use contract.Monad.{Fun}
 use contract.Running.{givenOf, tables}
-use types.Kit.{Given, ‵, raw, _⊛_, _$_, _∵_, !, qed, by, move, keep, drop, use1, split, join, fsplit, fsplit3, fjoin, fjoin3, feqI, suffices, frame, done}
+use types.Kit.{Given, ‵, _⊛_, _$_, _∵_, !, qed, by, move, keep, drop, split, join, fsplit, fsplit3, fjoin, fjoin3, feqI, suffices, frame, done}
 use types.Run.{look, init, store-raw, forget, stop, hop, from, load, unit-lit, of-opd, assigns, no-more, land, returns, enter, alloc1, alloc0, params1, pass1, pass0, free1, free0}
 use types.SemTy.{Body}
 use sound.WpLaws.{FmC}
@@ -25,12 +25,10 @@ use denote.Ref.{RefT, MutRef, ptr-vals, mut-tells}
 use denote.Signature.{plain}
 use denote.Steps.{nothing}
 use denote.Triple.Statement.{Contract, Triple}
-use denote.Triple.Call.{calls-at}
 use denote.Triple.Entry.{onEntry}
 use denote.Triple.Spec.{tripleOf}
 use denote.Triple.Table.{cited}
 use denote.Triple.Walked.{says, Stays, stay-ref, walkOf, goes-ref, Walks, ends-at, walked}
-use denote.Triple.Clauses.{ensured}
 use Rattle.device.specs.Device.{powerUp}
 use Rattle.device.specs.declared.Device.{Device}
 use Rattle.device.proofs.Device as T
@@ -38,7 +36,7 @@ use Rattle.device.proofs.Device.power_up as g
 use Rattle.device.proofs.Device.power_up.Symbol as g-def
 use Rattle.device.proofs.Device.power_up.Symbol.{name as #power-up}
 use Rattle.device.proofs.Device.power_up.Met as g-thm
-use Rattle.twin.proofs.Walk.{opens-device, closes-device, typed-device, gives-back, told, proved-by}
+use Rattle.twin.proofs.Walk.{opens-device, closes-device, typed-device, asks, proved-by}
 use Rattle.twin.proofs.twin_power_up.Key.{name as #twin-power-up}
 use Rattle.twin.proofs.twin_power_up as f
 use Rattle.twin.proofs.twin_power_up.Statement as stated
@@ -71,8 +69,8 @@ module _ {M : Type 1} (𝓤 : URA M) (H : Heap 𝓤) (A : Atoms 𝓤) (W : Given
   abbrev to-start : Start 𝓤 H A at-mem run .Ghost
   to-start = ((tt, tt, tt, tt, tt), tt)
 
-  goes-start : ent 𝓤 (sem 𝓤 H A ftrue) (Start 𝓤 H A at-mem run .pre to-start)
-  goes-start = qed W (‵ ftrue ∷ []) ∵ nothing ! $ join ! $ frame ! $ done !
+  goes-start : ent 𝓤 (emp 𝓤) (Start 𝓤 H A at-mem run .pre to-start)
+  goes-start = qed W [] ∵ nothing ! $ nothing ! $ join ! $ frame ! $ done !
 
   module _ (C : Calls 𝓤 H) (Λ : Loops 𝓤 H) (fmc : FmC 𝓤 H (W .laws) C) (known : Triple 𝓤 (C #power-up) (Start 𝓤 H A at-mem run)) where
     walk : ent 𝓤 (onEntry 𝓤 H A f.signature (κ, tt) (q, tt) x at) (WpFn 𝓤 H C Λ code.function (vptr b o ∷ []) Post)
@@ -83,15 +81,13 @@ module _ {M : Type 1} (𝓤 : URA M) (H : Heap 𝓤) (A : Atoms 𝓤) (W : Given
         alloc1 ! (λ l₀. alloc1 ! (λ l₁. alloc1 ! (λ l₂. alloc0 ! $ params1 ! $ pass1 ! (init ! 2 refl (tt, tt)) $ pass0 ! $
         move ! (6 ∷ 7 ∷ 8 ∷ []) $ opens-device ! tt h b o (λ _.
         -- [the device's cell; the open borrow; obs; auth; room for _2; …; _1; …; room for _0; …]
-        nothing ! $ use1 W (raw (Start 𝓤 H A at-mem run .pre to-start)) goes-start $ calls-at ! fmc (Start 𝓤 H A at-mem run) known to-start (no-more !) (λ v.
-        gives-back ! tt T.the-row (λ r. r ≡ powerUp) (ensured 𝓤 H A g.ended (g.clauses 𝓤 H A at-mem run) tt tt tt)
-        (λ r. told 𝓤 H A g.ended (g.clauses 𝓤 H A at-mem run) tt tt tt r (r ≡ powerUp) (λ ws. id⊢ 𝓤 _)) v (λ r e is.
+        asks ! fmc g.ended (g.clauses 𝓤 H A at-mem run) known to-start goes-start (no-more !) (λ r. r ≡ powerUp) (λ r ws. id⊢ 𝓤 _) (λ v r e is.
         land ! (from ! (stop !)) (init ! 4 refl (typed-device W r _ is .0)) $
         assigns ! (of-opd ! (load ! (from ! (stop !)) (look ! 4 refl))) (from ! (hop ! (look ! 6 refl) (stop !))) (store-raw ! 0 refl (typed-device W r _ is .0)) $
         assigns ! (of-opd ! (unit-lit !)) (from ! (stop !)) (init ! 8 refl (tt, tt)) $ closes-device ! tt r (v ∷ []) is b o $
         -- [obs; the borrow; the token; _2; …; _1; …; _0; …]
         returns ! (look ! 7 refl) $ forget ! 3 refl $ forget ! 5 refl $ forget ! 7 refl $ move ! (7 ∷ 8 ∷ []) $ free1 ! $ move ! (5 ∷ 6 ∷ []) $ free1 ! $ move ! (3 ∷ 4 ∷ []) $ free1 ! $ free0 ! $
-        keep ! (0 ∷ 1 ∷ 2 ∷ []) $ by ! (exits r e)))))))
+        keep ! (0 ∷ 1 ∷ 2 ∷ []) $ by ! (exits r e))))))
 
 module _ {M : Type 1} (𝓤 : URA M) (H : Heap 𝓤) (A : Atoms 𝓤) (W : Given 𝓤 H A) (at-mem : Memory → SProp 𝓤) (run : Routine → Fun 𝓤) where
   walks : (C : Calls 𝓤 H) (Λ : Loops 𝓤 H) → FmC 𝓤 H (W .laws) C → Triple 𝓤 (C #power-up) (Start 𝓤 H A at-mem run) → Walks 𝓤 H A f.ended stayed (WpFn 𝓤 H C Λ code.function) (f.clauses 𝓤 H A at-mem run)
