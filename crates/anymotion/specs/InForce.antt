@@ -10,7 +10,8 @@ use Rattle.laws.specs.Choice.{pick, both, either}
 use Rattle.laws.specs.Lists.{isIn}
 use Rattle.registers.specs.Answers.{accepted}
 use Rattle.registers.specs.Refused.{writeAnswer}
-use Rattle.events.specs.Event.{Event, powerUp, write, read, sample, cycle}
+use Rattle.events.specs.Event.{Event}
+use Rattle.events.specs.Views.{isPowerUp, atWrite, atSample}
 use Rattle.events.specs.Bank.{bank, stored}
 
 -- ---- the registers: the byte that is in force at an address, and whether a write of a byte to an address is accepted. All that is said of
@@ -41,19 +42,11 @@ isLatched es = meansLatched (inForce es 0x21)
 -- ---- writes
 -- an accepted write to one of these addresses, after es
 abbrev pub isTakenAt : List ℕ → List Event → Event → Bool
-isTakenAt addresses es powerUp = false
-isTakenAt addresses es (write a byte) = both (isTaken es a byte) (isIn addresses a)
-isTakenAt addresses es (read a n) = false
-isTakenAt addresses es (sample x y z temperature) = false
-isTakenAt addresses es cycle = false
+isTakenAt addresses es e = atWrite false (λ a byte. both (isTaken es a byte) (isIn addresses a)) e
 
 -- power-up, and "14: 0xB6 is a soft reset: everything as at power-up"
 abbrev pub startsAnew : Event → Bool
-startsAnew powerUp = true
-startsAnew (write a byte) = both (eqb a 0x14) (eqb byte 0xB6)
-startsAnew (read a n) = false
-startsAnew (sample x y z temperature) = false
-startsAnew cycle = false
+startsAnew e = either (isPowerUp e) (atWrite false (λ a byte. both (eqb a 0x14) (eqb byte 0xB6)) e)
 
 -- "An accepted write to 0x0F, 0x16, 0x21, 0x27 or 0x28 clears status, marks and runs"
 abbrev pub clearing : List ℕ
@@ -81,8 +74,4 @@ fits v = both (leZ (negℤ (pos 2048)) v) (leZ v (pos 2047))
 
 -- the sample that an event brings, where it is accepted
 abbrev pub brings : Event → List Signed
-brings powerUp = []
-brings (write a byte) = []
-brings (read a n) = []
-brings (sample x y z temperature) = pick (both (fits x) (both (fits y) (fits z))) (record { x = x; y = y; z = z } ∷ []) []
-brings cycle = []
+brings e = atSample [] (λ x y z temperature. pick (both (fits x) (both (fits y) (fits z))) (record { x = x; y = y; z = z } ∷ []) []) e

@@ -1,4 +1,5 @@
 pub mod Event
+pub mod Views
 pub mod Run
 pub mod Bank
 pub mod Parts

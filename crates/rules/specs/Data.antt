@@ -7,45 +7,30 @@ use lib.IntN.{ℤ, pos, negsuc, natAbs, _+ℤ_}
 use lib.Signed.{leZ}
 use Rattle.laws.specs.Choice.{pick, both, either}
 use Rattle.laws.specs.Bits.{bit, worth}
-use Rattle.events.specs.Event.{Event, powerUp, write, read, sample, cycle}
+use Rattle.events.specs.Event.{Event}
+use Rattle.events.specs.Views.{isPowerUp, atWrite, atRead, atSample}
 use Rattle.rules.specs.Stored.{isSoftReset, byteBy}
 use Rattle.rules.specs.Back.{someSince, beforeLast}
 
 -- ---- events
 -- power-up or soft reset: "everything as at power-up"
 abbrev pub isStart : Event → Bool
-isStart powerUp = true
-isStart (write a byte) = isSoftReset a byte
-isStart (read a n) = false
-isStart (sample x y z temperature) = false
-isStart cycle = false
+isStart e = either (isPowerUp e) (atWrite false isSoftReset e)
 
 -- an accepted sample: "x, y or z outside -2048..2047" is refused
 abbrev pub isInside : ℤ → Bool
 isInside v = both (leZ (negsuc 2047) v) (leZ v (pos 2047))
 
 abbrev pub isSample : Event → Bool
-isSample powerUp = false
-isSample (write a byte) = false
-isSample (read a n) = false
-isSample (sample x y z temperature) = both (isInside x) (both (isInside y) (isInside z))
-isSample cycle = false
+isSample e = atSample false (λ x y z temperature. both (isInside x) (both (isInside y) (isInside z))) e
 
 -- a read of one byte, at address at
 abbrev pub isRead : ℕ → Event → Bool
-isRead at powerUp = false
-isRead at (write a byte) = false
-isRead at (read a n) = both (eqb a at) (eqb n 1)
-isRead at (sample x y z temperature) = false
-isRead at cycle = false
+isRead at e = atRead false (λ a n. both (eqb a at) (eqb n 1)) e
 
 -- "Writing 0x13 with bit 6 at 1 releases all locks"
 abbrev pub isRelease : Event → Bool
-isRelease powerUp = false
-isRelease (write a byte) = both (eqb a 0x13) (bit 6 byte)
-isRelease (read a n) = false
-isRelease (sample x y z temperature) = false
-isRelease cycle = false
+isRelease e = atWrite false (λ a byte. both (eqb a 0x13) (bit 6 byte)) e
 
 -- ---- the last accepted sample since power-up or soft reset; before any, all is 0
 pub record Values : Type 0 where
@@ -58,11 +43,7 @@ abbrev pub noValues : Values
 noValues = record { x = pos 0; y = pos 0; z = pos 0; temperature = 0 }
 
 abbrev pub valuesOf : Event → Values
-valuesOf powerUp = noValues
-valuesOf (write a byte) = noValues
-valuesOf (read a n) = noValues
-valuesOf (sample x y z temperature) = record { x = x; y = y; z = z; temperature = temperature }
-valuesOf cycle = noValues
+valuesOf e = atSample noValues (λ x y z temperature. record { x = x; y = y; z = z; temperature = temperature }) e
 
 abbrev pub lastSample : List Event → Values
 lastSample [] = noValues

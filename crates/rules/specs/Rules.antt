@@ -10,7 +10,8 @@ use Rattle.laws.specs.Lists.{isIn}
 use Rattle.laws.specs.Bits.{bit, worth}
 use Rattle.interrupts.specs.declared.Level.{Level}
 use Rattle.interrupts.specs.declared.Level.the-variants.{Low, High, Released}
-use Rattle.events.specs.Event.{Event, powerUp, write, read, sample, cycle}
+use Rattle.events.specs.Event.{Event, read}
+use Rattle.events.specs.Views.{isCycle}
 use Rattle.rules.specs.Stored.{byteBy}
 use Rattle.rules.specs.Bursts.{opened}
 use Rattle.rules.specs.Back.{someSince}
@@ -25,14 +26,6 @@ pub record Elsewhere : Type 0 where
   pub moved : Bool
   pub mark : ℕ
   pub negative : Bool
-
--- the start of an acquisition cycle
-abbrev pub isCycle : Event → Bool
-isCycle powerUp = false
-isCycle (write a byte) = false
-isCycle (read a n) = false
-isCycle (sample x y z temperature) = false
-isCycle cycle = true
 
 -- ---- what else the statuses are made of
 -- "an accepted sample came since the last cycle start or reset"

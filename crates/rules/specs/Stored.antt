@@ -6,6 +6,7 @@ use lib.Dec.{eqb}
 use Rattle.laws.specs.Choice.{pick, both}
 use Rattle.laws.specs.Lists.{isIn}
 use Rattle.events.specs.Event.{Event, powerUp, write, read, sample, cycle}
+use Rattle.events.specs.Views.{isPowerUp, atWrite}
 use Rattle.rules.specs.Paper.{resetOf, masked, accepts}
 
 -- what is written is always a byte
@@ -33,14 +34,13 @@ pub data LastWrite : Type 0 where
 -- of the last accepted write to address a since power-up and, where a is not spared, since soft reset
 abbrev pub lastWrite : List Event → ℕ → LastWrite
 lastWrite [] a = none
-lastWrite (powerUp ∷ es) a = none
-lastWrite (write c byte ∷ es) a =
+lastWrite (e ∷ es) a =
+    atWrite (pick (isPowerUp e) none (lastWrite es a))
+    (λ c byte.
     pick (both (eqb c a) (accepts c byte)) (last byte)
     (pick (both (isSoftReset c byte) (not (isSpared a))) none
-    (lastWrite es a))
-lastWrite (read c n ∷ es) a = lastWrite es a
-lastWrite (sample x y z temperature ∷ es) a = lastWrite es a
-lastWrite (cycle ∷ es) a = lastWrite es a
+    (lastWrite es a)))
+    e
 
 -- "A write changes masked bits only; other bits keep their reset value"
 abbrev pub byteLeft : ℕ → LastWrite → ℕ

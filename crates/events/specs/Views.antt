@@ -1,0 +1,45 @@
+-- One kind of event at a time: what f says of an event of that kind, and other of any other. Whoever looks back on a history asks these,
+-- so that a new event has its lines here.
+use Prim.Native.Nat.{ℕ}
+use mathlib.Core.Bool.{Bool, true, false}
+use lib.IntN.{ℤ}
+use Rattle.events.specs.Event.{Event, powerUp, write, read, sample, cycle}
+
+abbrev pub isPowerUp : Event → Bool
+isPowerUp powerUp = true
+isPowerUp (write a byte) = false
+isPowerUp (read a n) = false
+isPowerUp (sample x y z temperature) = false
+isPowerUp cycle = false
+
+abbrev pub isCycle : Event → Bool
+isCycle powerUp = false
+isCycle (write a byte) = false
+isCycle (read a n) = false
+isCycle (sample x y z temperature) = false
+isCycle cycle = true
+
+module _ {A : Type 0} (other : A) where
+  -- an address and a byte
+  abbrev pub atWrite : (ℕ → ℕ → A) → Event → A
+  atWrite f powerUp = other
+  atWrite f (write a byte) = f a byte
+  atWrite f (read a n) = other
+  atWrite f (sample x y z temperature) = other
+  atWrite f cycle = other
+
+  -- an address and a length
+  abbrev pub atRead : (ℕ → ℕ → A) → Event → A
+  atRead f powerUp = other
+  atRead f (write a byte) = other
+  atRead f (read a n) = f a n
+  atRead f (sample x y z temperature) = other
+  atRead f cycle = other
+
+  -- x, y, z and the temperature
+  abbrev pub atSample : (ℤ → ℤ → ℤ → ℕ → A) → Event → A
+  atSample f powerUp = other
+  atSample f (write a byte) = other
+  atSample f (read a n) = other
+  atSample f (sample x y z temperature) = f x y z temperature
+  atSample f cycle = other
