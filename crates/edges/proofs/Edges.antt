@@ -1,10 +1,7 @@
--- 01, "Both sides of each edge": the rows P1 to P10, as one table under one theorem, by computation.
+-- 01, "Both sides of each edge": each event of each row gives what the row says, by computation.
 -- Assumes nothing.
-use Prim.Native.Nat.{ℕ}
 use mathlib.Core.Path.{_≡_, refl}
-use mathlib.Core.List.{List, [], _∷_, _++_, map}
-use lib.IntN.{ℤ, pos, negsuc}
-use Rattle.laws.specs.Table.{upFrom}
+use mathlib.Core.List.{map}
 use Rattle.laws.specs.Bits.{bit}
 use Rattle.laws.specs.Bytes.{zeros, firstOrZeros, movedForward}
 use Rattle.codes.specs.Range.{rangeOf}
@@ -31,57 +28,9 @@ use Rattle.device.specs.Show.{shownByte}
 use Rattle.device.specs.Read.{byteFrom, afterSingles, singleBytes, readOf}
 use Rattle.device.specs.Write.{written, writeOf}
 use Rattle.device.specs.Sample.{sampleAnswer, afterAccepted, sampleOf}
-use Rattle.events.specs.Event.{Event, write, read, sample, Given, answer, bytes}
 use Rattle.events.specs.Run.{told}
+use Rattle.edges.specs.Edges.{rows}
 
--- a step of a row: an event, and what it gives
-record Step : Type 0 where
-  event : Event
-  given : Given
-
-infix 90 _⇒_
-abbrev _⇒_ : Event → Given → Step
-e ⇒ g = record { event = e; given = g }
-
--- a sample of x alone, and n accepted ones: 1, 2, ..
-abbrev x : ℤ → Event
-x v = sample v (pos 0) (pos 0) 0
-
-abbrev samples : ℕ → List Step
-samples n = upFrom (λ k. x (pos k) ⇒ answer 0) 1 n
-
--- each row starts at a fresh device
-abbrev rows : List (List Step)
-rows =
-    -- P1 "fresh 0x00 reads FA; after writing 12 to it, still FA"
-    (read 0x00 1 ⇒ bytes (0xFA ∷ []) ∷ write 0x00 0x12 ⇒ answer 0 ∷ read 0x00 1 ⇒ bytes (0xFA ∷ []) ∷ []) ∷
-    -- P2 "0x0F: F5 reads back 05; then 04 gives 2 and 05 remains"
-    (write 0x0F 0xF5 ⇒ answer 0 ∷ read 0x0F 1 ⇒ bytes (0x05 ∷ []) ∷ write 0x0F 0x04 ⇒ answer 2 ∷ read 0x0F 1 ⇒ bytes (0x05 ∷ []) ∷ []) ∷
-    -- P3 "reads: 0x3E length 1 is 0; length 2 is 6; 0x40 length 0 is 1; 0x3F length 193 is 5"
-    (read 0x3E 1 ⇒ bytes (0x00 ∷ []) ∷ read 0x3E 2 ⇒ answer 6 ∷ read 0x40 0 ⇒ answer 1 ∷ read 0x3F 193 ⇒ answer 5 ∷ []) ∷
-    -- P4 "x 2047 accepted, 2048 gives 4; -2048 stored as 01 80 in a frame"
-    (write 0x3E 0x40 ⇒ answer 0 ∷ x (pos 2047) ⇒ answer 0 ∷ x (pos 2048) ⇒ answer 4 ∷ read 0x3F 6 ⇒ bytes (0xF1 ∷ 0x7F ∷ 0x01 ∷ 0x00 ∷ 0x01 ∷ 0x00 ∷ []) ∷
-    x (negsuc 2047) ⇒ answer 0 ∷ read 0x3F 6 ⇒ bytes (0x01 ∷ 0x80 ∷ 0x01 ∷ 0x00 ∷ 0x01 ∷ 0x00 ∷ []) ∷ []) ∷
-    -- P5 "FIFO mode, 32 samples: 0x0E is 20; one more: A0, first frame the first sample"
-    ((write 0x3E 0x40 ⇒ answer 0 ∷ samples 32) ++ (read 0x0E 1 ⇒ bytes (0x20 ∷ []) ∷
-    x (pos 33) ⇒ answer 0 ∷ read 0x0E 1 ⇒ bytes (0xA0 ∷ []) ∷ read 0x3F 6 ⇒ bytes (0x11 ∷ 0x00 ∷ 0x01 ∷ 0x00 ∷ 0x01 ∷ 0x00 ∷ []) ∷ [])) ∷
-    -- P6 "STREAM, 33 samples: A0, first frame the second sample"
-    ((write 0x3E 0x80 ⇒ answer 0 ∷ samples 33) ++ (read 0x0E 1 ⇒ bytes (0xA0 ∷ []) ∷ read 0x3F 6 ⇒ bytes (0x21 ∷ 0x00 ∷ 0x01 ∷ 0x00 ∷ 0x01 ∷ 0x00 ∷ []) ∷ [])) ∷
-    -- P7 "FIFO mode, two xyz frames: reading 1 byte leaves 1"
-    ((write 0x3E 0x40 ⇒ answer 0 ∷ samples 2) ++ (read 0x3F 1 ⇒ bytes (0x11 ∷ []) ∷ read 0x0E 1 ⇒ bytes (0x01 ∷ []) ∷ [])) ∷
-    -- P7 "reading 7 from two leaves 0"
-    ((write 0x3E 0x40 ⇒ answer 0 ∷ samples 2) ++ (read 0x3F 7 ⇒ bytes (0x11 ∷ 0x00 ∷ 0x01 ∷ 0x00 ∷ 0x01 ∷ 0x00 ∷ 0x21 ∷ []) ∷ read 0x0E 1 ⇒ bytes (0x00 ∷ []) ∷ [])) ∷
-    -- P8 "x 291, read 0x02: 31; sample x -1; 0x03 gives 12, then FF"
-    (x (pos 291) ⇒ answer 0 ∷ read 0x02 1 ⇒ bytes (0x31 ∷ []) ∷ x (negsuc 0) ⇒ answer 0 ∷ read 0x03 1 ⇒ bytes (0x12 ∷ []) ∷ read 0x03 1 ⇒ bytes (0xFF ∷ []) ∷ []) ∷
-    -- P9 "0x16=01, 0x28=01, 0x27=00, x 0, 4, 9: set at 9; 0x0B is 01"
-    (write 0x16 0x01 ⇒ answer 0 ∷ write 0x28 0x01 ⇒ answer 0 ∷ write 0x27 0x00 ⇒ answer 0 ∷ x (pos 0) ⇒ answer 0 ∷ read 0x09 1 ⇒ bytes (0x00 ∷ []) ∷
-    x (pos 4) ⇒ answer 0 ∷ read 0x09 1 ⇒ bytes (0x00 ∷ []) ∷ x (pos 9) ⇒ answer 0 ∷ read 0x09 1 ⇒ bytes (0x04 ∷ []) ∷ read 0x0B 1 ⇒ bytes (0x01 ∷ []) ∷ []) ∷
-    -- P9 "Afresh, x 0, -5: 0B is 09"
-    (write 0x16 0x01 ⇒ answer 0 ∷ write 0x28 0x01 ⇒ answer 0 ∷ write 0x27 0x00 ⇒ answer 0 ∷ x (pos 0) ⇒ answer 0 ∷ x (negsuc 4) ⇒ answer 0 ∷ read 0x0B 1 ⇒ bytes (0x09 ∷ []) ∷ []) ∷
-    -- P10 "0x21=01 gives 3, 07 gives 0"
-    (write 0x21 0x01 ⇒ answer 3 ∷ write 0x21 0x07 ⇒ answer 0 ∷ []) ∷
-    []
-
-edges : map (λ row. told device.powerUp (map (λ s. s .event) row)) rows ≡ map (λ row. map (λ s. s .given) row) rows
+pub edges : map (λ row. told device.powerUp (map (λ s. s .event) row)) rows ≡ map (λ row. map (λ s. s .given) row) rows
 unfolding bit zeros firstOrZeros movedForward rangeOf latchOf modeOf axesOf listed reservedAddresses lineOf refusedBits rowOf rowAt resetBytes reservedCode notModelled answerAt readAnswer deedsOf judgement flatPushed flatRead bytesRead pushedIn readIn bytesIn countIn noFrames code byteAt afterRead slopesTo firstOver pointOf overRun calmRun afterOver afterCalm afterSample restarted detectorsSampled detectorsWritten statusesOf statusByte device.powerUp firstBytes shownByte byteFrom afterSingles singleBytes readOf written writeOf sampleAnswer afterAccepted sampleOf
 edges = refl
