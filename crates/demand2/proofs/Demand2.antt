@@ -30,7 +30,7 @@ use Rattle.anymotion.specs.Marks.{markOf, signOf, markedAxes}
 use Rattle.anymotion.proofs.Detector.{detector-is}
 use Rattle.rules.specs.Bursts.{isBurst}
 use Rattle.rules.specs.Rules.{Elsewhere, ruled, toInt1, toInt2, someMapped, Leveled}
-use Rattle.rules.specs.Stored.{Bytes}
+use Rattle.rules.specs.Stored.{ByteWrites}
 use Rattle.rules.proofs.Reading.{elsewhereIn, reads}
 use Rattle.rules.proofs.Pins.{pins}
 use Rattle.demand2.specs.Demand2.{elsewhere, Demand2}
@@ -75,7 +75,7 @@ module _ (es : List Event) (n : ℕ) (some : 1 ≤ n) (few : n ≤ 192) where
   unfolding readOf readAnswer
   readout = rw (ok, taken, given, demand3 es .demand .next (read 0x3F n) n said)
 
-pub demand2 : (es : List Event) → Bytes es → Demand2 es
+pub demand2 : (es : List Event) → ByteWrites es → Demand2 es
 demand2 es b =
     let p = subst (λ (w : Elsewhere). let r = ruled w es in
     Leveled (someMapped r toInt1) (bit 0 (r 0x20)) (bit 1 (r 0x20)) (pinsOf (after es) .int1)

@@ -36,8 +36,8 @@ elsewhere es = record {
 }
 
 -- the byte that an address below 0x3F reads, after a history
-abbrev pub byteOf : List Event → ℕ → ℕ
-byteOf es a = ruled (elsewhere es) es a
+abbrev pub byteRead : List Event → ℕ → ℕ
+byteRead es a = ruled (elsewhere es) es a
 
 -- of the histories whose written bytes are bytes
 pub record Demand2 (es : List Event) : Type 0 where
@@ -46,5 +46,5 @@ pub record Demand2 (es : List Event) : Type 0 where
   -- "A read at 0x3F stays there and gives frames oldest first .. Past the last frame it gives zeros"
   pub frames : (n : ℕ) → 1 ≤ n → n ≤ 192 → gives (after es) (read 0x3F n) ≡ bytes (firstOrZeros n (flat (heldOf (fates accelerometer es))))
   -- "0x20 bits 0 and 2 give the active level of INT1 and INT2; bits 1 and 3 choose open-drive"
-  pub int1 : Leveled (someMapped (byteOf es) toInt1) (bit 0 (byteOf es 0x20)) (bit 1 (byteOf es 0x20)) (pinsOf (after es) .int1)
-  pub int2 : Leveled (someMapped (byteOf es) toInt2) (bit 2 (byteOf es 0x20)) (bit 3 (byteOf es 0x20)) (pinsOf (after es) .int2)
+  pub int1 : Leveled (someMapped (byteRead es) toInt1) (bit 0 (byteRead es 0x20)) (bit 1 (byteRead es 0x20)) (pinsOf (after es) .int1)
+  pub int2 : Leveled (someMapped (byteRead es) toInt2) (bit 2 (byteRead es 0x20)) (bit 3 (byteRead es 0x20)) (pinsOf (after es) .int2)

@@ -14,7 +14,7 @@ use Rattle.channels.specs.Codes.{codes}
 use Rattle.channels.specs.Channels.{sampled}
 use Rattle.channels.specs.declared.Channels.{Channels}
 use Rattle.fifo.specs.Flat.{Flat, numbersOf}
-use Rattle.fifo.specs.Store.{readAt}
+use Rattle.fifo.specs.Store.{readoutAt}
 use Rattle.detectors.specs.Detectors.{detectorsSampled, detectorsWritten}
 use Rattle.registers.specs.Answers.{accepted}
 use Rattle.registers.specs.Deeds.{judgement}
@@ -106,7 +106,7 @@ module _ (d : Device) (a : ℕ) (buffer : List ℕ) (answer : Answer) (told : an
     yes : accepted (readAnswer a (length buffer)) ≡ true
     yes = ap accepted (sym told) ∙ ok
 
-    pub readout-is : eqb a framesAt ≡ true → (f : Flat) (bytes : List ℕ) → f ≡ readAt depth (axesOf (reg d controlAt)) (length buffer) (flatOf d)
+    pub readout-is : eqb a framesAt ≡ true → (f : Flat) (bytes : List ℕ) → f ≡ readoutAt depth (axesOf (reg d controlAt)) (length buffer) (flatOf d)
         → bytes ≡ readoutBytes d (length buffer) → Done (withFlat d f) bytes
     unfolding readOf bufferAfter
     readout-is l f bytes ef eb = (rw (yes, l) (λ i. record { answer = told i; device = withFlat d (ef i) }), rw (yes, l) eb)

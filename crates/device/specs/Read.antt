@@ -10,7 +10,7 @@ use Rattle.codes.specs.Addresses.{shadowAt, controlAt, framesAt}
 use Rattle.codes.specs.Axes.{axesOf}
 use Rattle.channels.specs.Channels.{byteAt, afterRead}
 use Rattle.channels.specs.declared.Channels.{Channels}
-use Rattle.fifo.specs.Store.{readAt, bytesAt}
+use Rattle.fifo.specs.Store.{readoutAt, readoutBytesAt}
 use Rattle.registers.specs.Answers.{accepted}
 use Rattle.registers.specs.Refused.{readAnswer}
 use Rattle.device.specs.Device.{depth, reg, flatOf, withChannels, withFlat}
@@ -49,10 +49,10 @@ singleBytes d a (suc n) = singleBytes d a n ++ (singleByte (afterSingles d a n) 
 
 -- "A read at 0x3F stays there and gives frames oldest first": the device after a readout of n bytes, and the bytes
 abbrev pub afterReadout : Device → ℕ → Device
-afterReadout d n = withFlat d (readAt depth (axesOf (reg d controlAt)) n (flatOf d))
+afterReadout d n = withFlat d (readoutAt depth (axesOf (reg d controlAt)) n (flatOf d))
 
 abbrev pub readoutBytes : Device → ℕ → List ℕ
-readoutBytes d n = bytesAt depth (axesOf (reg d controlAt)) n (flatOf d)
+readoutBytes d n = readoutBytesAt depth (axesOf (reg d controlAt)) n (flatOf d)
 
 -- an accepted read of n bytes from a on: the device after it, and the bytes
 abbrev pub burstAfter : Device → ℕ → ℕ → Device

@@ -13,7 +13,7 @@ use Rattle.device.specs.Device as device
 use Rattle.device.specs.Device.{firstBytes}
 use Rattle.device.specs.Write.{regsReset}
 use Rattle.events.specs.Event.{Event, powerUp, write, read, sample, cycle}
-use Rattle.events.specs.Run.{after, behind, onward}
+use Rattle.events.specs.Run.{after, scriptOnto, onward}
 use Rattle.events.specs.Bank.{bankNext, bank}
 use Rattle.events.proofs.Parts.{regs-next}
 
@@ -46,7 +46,7 @@ bank-length [] = first-length
 bank-length (e ∷ es) = length-next (bank es) (bank-length es) e
 
 -- ---- scripts
-pub onward-after : (h es : List Event) → onward (after h) es ≡ after (behind es h)
+pub onward-after : (h es : List Event) → onward (after h) es ≡ after (scriptOnto es h)
 unfolding after
 onward-after h [] = refl
 onward-after h (e ∷ es) = onward-after (e ∷ h) es

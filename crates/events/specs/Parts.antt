@@ -13,7 +13,7 @@ use Rattle.channels.specs.Codes.{codes}
 use Rattle.channels.specs.Channels.{noSamples, sampled}
 use Rattle.channels.specs.declared.Channels.{Channels}
 use Rattle.fifo.specs.Flat.{Flat}
-use Rattle.fifo.specs.Store.{emptied, pushedAt, readAt}
+use Rattle.fifo.specs.Store.{emptied, pushedAt, readoutAt}
 use Rattle.detectors.specs.Detectors.{allQuiet, detectorsSampled, detectorsWritten}
 use Rattle.detectors.specs.declared.Detectors.{Detectors}
 use Rattle.registers.specs.Answers.{accepted}
@@ -56,7 +56,7 @@ cameNext cycle came = false
 abbrev pub flatNext : List ℕ → Event → Flat → Flat
 flatNext regs powerUp f = emptied
 flatNext regs (write a byte) f = pick (clears a byte) emptied f
-flatNext regs (read a n) f = pick (readsFrames a n) (readAt depth (axesOf (getD regs controlAt 0)) n f) f
+flatNext regs (read a n) f = pick (readsFrames a n) (readoutAt depth (axesOf (getD regs controlAt 0)) n f) f
 flatNext regs (sample x y z temperature) f =
     let axes = axesOf (getD regs controlAt 0) in
     pick (accepted (sampleAnswer x y z)) (pushedAt depth (modeOf (getD regs controlAt 0)) axes (frameOf axes (codes x y z)) f) f

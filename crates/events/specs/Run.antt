@@ -16,9 +16,9 @@ after (e ∷ es) = next (after es) e
 
 -- ---- a script: the first event stands first
 -- the history when a script has come behind a history
-abbrev pub behind : List Event → List Event → List Event
-behind [] history = history
-behind (e ∷ es) history = behind es (e ∷ history)
+abbrev pub scriptOnto : List Event → List Event → List Event
+scriptOnto [] history = history
+scriptOnto (e ∷ es) history = scriptOnto es (e ∷ history)
 
 -- the device after a script, and what each of its events gives
 abbrev pub onward : Device → List Event → Device

@@ -47,11 +47,11 @@ emptied = record { bytes = noFrames; count = 0; overrun = false }
 abbrev pub pushedAt : ℕ → Mode → Axes → List ℕ → Flat → Flat
 pushedAt = pushedIn room
 
-abbrev pub readAt : ℕ → Axes → ℕ → Flat → Flat
-readAt = readIn room
+abbrev pub readoutAt : ℕ → Axes → ℕ → Flat → Flat
+readoutAt = readIn room
 
-abbrev pub bytesAt : ℕ → Axes → ℕ → Flat → List ℕ
-bytesAt = bytesIn room
+abbrev pub readoutBytesAt : ℕ → Axes → ℕ → Flat → List ℕ
+readoutBytesAt = bytesIn room
 
 abbrev pub countAt : ℕ → Fifo → ℕ
 countAt = countIn room

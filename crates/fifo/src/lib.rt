@@ -9,7 +9,7 @@ ghost use Rattle.laws.specs.Bytes.{zeros, firstOrZeros};
 ghost use Rattle.fifo.specs.Setting.{longestFrame, sizeOf, depthIn, dropsIn, settingOf};
 ghost use Rattle.fifo.specs.Queue.{reached};
 ghost use Rattle.fifo.specs.Flat.{Room, flatAt, numbersOf, flatPushed, flatRead, bytesRead};
-ghost use Rattle.fifo.specs.Store.{room, fitting, noFrames, emptied, pushedAt, readAt, bytesAt, countAt, statusAt};
+ghost use Rattle.fifo.specs.Store.{room, fitting, noFrames, emptied, pushedAt, readoutAt, readoutBytesAt, countAt, statusAt};
 use codes::Axes;
 use codes::Mode;
 use laws::least;
@@ -232,8 +232,8 @@ impl Fifo {
 
     // A readout at 0x3F of as many bytes as out has.
     pub fn readout(self, frames: &mut [u8; ROOM], depth: usize, axes: Axes, out: &mut [u8]) -> Self
-        ensures { λ r. ⌜ (flatAt (now (frames .exit)) r ≡ readAt depth axes (length (now (out .entry))) (flatAt (now (frames .entry)) self))
-            × (now (out .exit) ≡ bytesAt depth axes (length (now (out .entry))) (flatAt (now (frames .entry)) self)) ⌝ }
+        ensures { λ r. ⌜ (flatAt (now (frames .exit)) r ≡ readoutAt depth axes (length (now (out .entry))) (flatAt (now (frames .entry)) self))
+            × (now (out .exit) ≡ readoutBytesAt depth axes (length (now (out .entry))) (flatAt (now (frames .entry)) self)) ⌝ }
     {
         let most = depth_within(depth);
         let size = size_of(axes);

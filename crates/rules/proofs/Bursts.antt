@@ -19,10 +19,10 @@ use Rattle.registers.specs.declared.Answer.the-variants.{Done, NoAddress, Reser
 use Rattle.device.specs.Read.{singleByte, afterSingle, afterSingles, singleBytes, readOf}
 use Rattle.device.specs.declared.Device.{Device}
 use Rattle.events.specs.Event.{Event, powerUp, write, read, sample, cycle, bytesAt, gives, bytes}
-use Rattle.events.specs.Run.{next, after, behind, onward, told}
+use Rattle.events.specs.Run.{next, after, scriptOnto, onward, told}
 use Rattle.events.specs.Parts.{readsBelow}
 use Rattle.events.proofs.Runs.{onward-after}
-use Rattle.rules.specs.Bursts.{isBurst, singles, joined, opened}
+use Rattle.rules.specs.Bursts.{isBurst, singles, bytesJoined, opened}
 
 -- ---- which reads are bursts below 0x3F
 pub burst-is : (a n : ℕ) → readsBelow a n ≡ isBurst a n
@@ -100,7 +100,7 @@ module _ (f : ℕ → Event) where
   onward-more d a zero = rw add-zero
   onward-more d a (suc n) = onward-more (next d (f a)) (suc a) n ∙ rw (suc-add, add-suc)
 
-  joined-more : (d : Device) (a n : ℕ) → joined (told d (upFrom f a (suc n))) ≡ joined (told d (upFrom f a n)) ++ bytesAt (onward d (upFrom f a n)) (f (a + n))
+  joined-more : (d : Device) (a n : ℕ) → bytesJoined (told d (upFrom f a (suc n))) ≡ bytesJoined (told d (upFrom f a n)) ++ bytesAt (onward d (upFrom f a n)) (f (a + n))
   joined-more d a zero = rw (add-zero, append-nil)
   joined-more d a (suc n) = rw (joined-more (next d (f a)) (suc a) n, append-assoc, suc-add, add-suc)
 
@@ -111,7 +111,7 @@ module _ (d : Device) (a : ℕ) where
     unfolding afterSingles
     after-more = onward-more (λ k. read k 1) d a n ∙ rw same (single-next (afterSingles d a n) (a + n) h)
 
-    bytes-more : joined (told d (singles a n)) ≡ singleBytes d a n → joined (told d (singles a (suc n))) ≡ singleBytes d a (suc n)
+    bytes-more : bytesJoined (told d (singles a n)) ≡ singleBytes d a n → bytesJoined (told d (singles a (suc n))) ≡ singleBytes d a (suc n)
     unfolding singleBytes
     bytes-more p = joined-more (λ k. read k 1) d a n ∙ rw (p, same, single-bytes (afterSingles d a n) (a + n) h)
 
@@ -120,7 +120,7 @@ module _ (d : Device) (a : ℕ) where
   singles-after zero h = refl
   singles-after (suc n) h = after-more n (omega arith) (singles-after n (omega arith))
 
-  singles-bytes : (n : ℕ) → a + n ≤ 0x3F → joined (told d (singles a n)) ≡ singleBytes d a n
+  singles-bytes : (n : ℕ) → a + n ≤ 0x3F → bytesJoined (told d (singles a n)) ≡ singleBytes d a n
   unfolding singleBytes
   singles-bytes zero h = refl
   singles-bytes (suc n) h = bytes-more n (omega arith) (singles-after n (omega arith)) (singles-bytes n (omega arith))
@@ -136,7 +136,7 @@ module _ (d : Device) (a : ℕ) where
     unfolding readOf
     burst-device = rw (ok, ne-eqb a framesAt (omega (arith, bounds .0)), singles-after n (bounds .1))
 
-    pub burst-gives : gives d (read a n) ≡ bytes (joined (told d (singles a n)))
+    pub burst-gives : gives d (read a n) ≡ bytes (bytesJoined (told d (singles a n)))
     unfolding readOf
     burst-gives = rw (answered-0 (readAnswer a n) ok, ok, ne-eqb a framesAt (omega (arith, bounds .0)), singles-bytes n (bounds .1))
 
@@ -146,14 +146,14 @@ module _ (h es : List Event) (same : after h ≡ after es) where
   unfolding after
   same-next e = ap (λ (d : Device). next d e) same
 
-  as-singles : (a n : ℕ) → isBurst a n ≡ true → after (read a n ∷ h) ≡ after (behind (singles a n) h)
+  as-singles : (a n : ℕ) → isBurst a n ≡ true → after (read a n ∷ h) ≡ after (scriptOnto (singles a n) h)
   unfolding after
   as-singles a n e = burst-device (after h) a n e ∙ onward-after h (singles a n)
 
-  same-read : (a n : ℕ) → after (pick (isBurst a n) (behind (singles a n) h) (read a n ∷ h)) ≡ after (read a n ∷ es)
+  same-read : (a n : ℕ) → after (pick (isBurst a n) (scriptOnto (singles a n) h) (read a n ∷ h)) ≡ after (read a n ∷ es)
   same-read a n = go (isBurst a n) refl
     where
-      go : (t : Bool) → isBurst a n ≡ t → after (pick t (behind (singles a n) h) (read a n ∷ h)) ≡ after (read a n ∷ es)
+      go : (t : Bool) → isBurst a n ≡ t → after (pick t (scriptOnto (singles a n) h) (read a n ∷ h)) ≡ after (read a n ∷ es)
       go true e = sym (as-singles a n e) ∙ same-next (read a n)
       go false e = same-next (read a n)
 

@@ -27,12 +27,12 @@ use Rattle.device.specs.Device as device
 use Rattle.device.specs.Read.{channelsRead}
 use Rattle.device.specs.declared.Device.{Device}
 use Rattle.events.specs.Event.{Event, powerUp, write, read, sample, cycle}
-use Rattle.events.specs.Run.{after, behind}
+use Rattle.events.specs.Run.{after, scriptOnto}
 use Rattle.events.specs.Bank.{bank}
 use Rattle.events.specs.Parts.{channelsNext}
 use Rattle.events.proofs.Parts.{channels-next}
 use Rattle.events.proofs.Runs.{bank-is}
-use Rattle.rules.specs.Stored.{Bytes, byteBy}
+use Rattle.rules.specs.Stored.{ByteWrites, byteBy}
 use Rattle.rules.specs.Bursts.{isBurst, singles, opened}
 use Rattle.rules.specs.Back.{beforeLast}
 use Rattle.rules.specs.Data.{isSample, isRead, isRelease, valuesOf, Axis, present, newData, locking, isLocked, lsbShown, msbShown, xAxis, yAxis, zAxis, dataBy}
@@ -112,7 +112,7 @@ module _ (axis : Axis) (part : Channels → Channel) (w : Part axis part) (h : L
             go false f q g = refl
 
     -- a read of one byte below 0x3F
-    shows-one : Bytes h → (a : ℕ) → a < 0x3F → Shows axis (read a 1 ∷ h) (channel (read a 1 ∷ h))
+    shows-one : ByteWrites h → (a : ℕ) → a < 0x3F → Shows axis (read a 1 ∷ h) (channel (read a 1 ∷ h))
     unfolding channelsRead
     shows-one b a l =
         after-event (read a 1) (rw (one-read (after h) a l, add-zero, stored-is h b shadowAt (omega arith), w .reads (not (bit 6 (byteBy h 0x13))) a (after h .channels)) (go (eqb a (axis .lsbAt)) refl (eqb a (suc (axis .lsbAt))) refl))
@@ -131,16 +131,16 @@ module _ (axis : Axis) (part : Channels → Channel) (w : Part axis part) (h : L
         go false f false g = passes axis e h (channel h) s (record { is-start = refl; is-sample = refl; is-lsb = rw f; is-msb = rw g; is-release = refl })
 
 -- ---- any events
-bytes-behind : (a n : ℕ) (h : List Event) → Bytes h → Bytes (behind (singles a n) h)
+bytes-behind : (a n : ℕ) (h : List Event) → ByteWrites h → ByteWrites (scriptOnto (singles a n) h)
 bytes-behind a zero h b = b
 bytes-behind a (suc n) h b = bytes-behind (suc a) n (read a 1 ∷ h) b
 
-bytes-opened : (es : List Event) → Bytes es → Bytes (opened es)
+bytes-opened : (es : List Event) → ByteWrites es → ByteWrites (opened es)
 unfolding opened
 bytes-opened [] b = b
 bytes-opened (powerUp ∷ es) b = bytes-opened es b
 bytes-opened (write a byte ∷ es) b = (b .0, bytes-opened es (b .1))
-bytes-opened (read a n ∷ es) b = picked Bytes (isBurst a n) (bytes-behind a n (opened es) (bytes-opened es b)) (bytes-opened es b)
+bytes-opened (read a n ∷ es) b = picked ByteWrites (isBurst a n) (bytes-behind a n (opened es) (bytes-opened es b)) (bytes-opened es b)
 bytes-opened (sample x y z t ∷ es) b = bytes-opened es b
 bytes-opened (cycle ∷ es) b = bytes-opened es b
 
@@ -148,14 +148,14 @@ module _ (axis : Axis) (part : Channels → Channel) (w : Part axis part) where
   abbrev Right : List Event → Type 0
   Right h = Shows axis h (part (after h .channels))
 
-  shows-singles : (a n : ℕ) → a + n ≤ 0x3F → (h : List Event) → Bytes h → Right h → Right (behind (singles a n) h)
+  shows-singles : (a n : ℕ) → a + n ≤ 0x3F → (h : List Event) → ByteWrites h → Right h → Right (scriptOnto (singles a n) h)
   shows-singles a zero l h b s = s
   shows-singles a (suc n) l h b s = shows-singles (suc a) n (omega arith) (read a 1 ∷ h) b (shows-one axis part w h s b a (omega arith))
 
-  shows-read : (a n : ℕ) (h : List Event) → Bytes h → Right h → Right (pick (isBurst a n) (behind (singles a n) h) (read a n ∷ h))
+  shows-read : (a n : ℕ) (h : List Event) → ByteWrites h → Right h → Right (pick (isBurst a n) (scriptOnto (singles a n) h) (read a n ∷ h))
   shows-read a n h b s = go (isBurst a n) refl
     where
-      go : (t : Bool) → isBurst a n ≡ t → Right (pick t (behind (singles a n) h) (read a n ∷ h))
+      go : (t : Bool) → isBurst a n ≡ t → Right (pick t (scriptOnto (singles a n) h) (read a n ∷ h))
       go true e = shows-singles a n (burst-bounds a n e .1) h b s
       go false e = shows-other axis part w h s a n e
 
@@ -163,7 +163,7 @@ module _ (axis : Axis) (part : Channels → Channel) (w : Part axis part) where
   unfolding after device.powerUp newData isLocked
   shows-none = rw (w .none) (record { code = rw (w .zeros); fresh = refl; locked = refl; held = no })
 
-  shows : (es : List Event) → Bytes es → Right (opened es)
+  shows : (es : List Event) → ByteWrites es → Right (opened es)
   unfolding opened
   shows [] b = shows-none
   shows (powerUp ∷ es) b = shows-start axis part w (opened es) (shows es b)
@@ -172,7 +172,7 @@ module _ (axis : Axis) (part : Channels → Channel) (w : Part axis part) where
   shows (sample x y z t ∷ es) b = shows-sample axis part w (opened es) (shows es b) x y z t
   shows (cycle ∷ es) b = shows-cycle axis part w (opened es) (shows es b)
 
-  module _ (es : List Event) (b : Bytes es) where
+  module _ (es : List Event) (b : ByteWrites es) where
     here : Shows axis (opened es) (part (after es .channels))
     here = subst (λ (d : Device). Shows axis (opened es) (part (d .channels))) (opened-same es) (shows es b)
 
@@ -187,7 +187,7 @@ module _ (axis : Axis) (part : Channels → Channel) (w : Part axis part) where
         go true e = here .held e ∙ omega arith
         go false e = omega arith
 
-pub data-is : (es : List Event) → Bytes es → (a : ℕ) → byteAt (after es .channels) a ≡ dataBy (opened es) a
+pub data-is : (es : List Event) → ByteWrites es → (a : ℕ) → byteAt (after es .channels) a ≡ dataBy (opened es) a
 unfolding byteAt dataBy
 data-is es b a =
     rw (

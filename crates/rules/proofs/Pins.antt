@@ -15,7 +15,7 @@ use Rattle.device.specs.Show.{shownByte, pinsOf}
 use Rattle.device.specs.Read.{byteFrom}
 use Rattle.events.specs.Event.{Event}
 use Rattle.events.specs.Run.{after}
-use Rattle.rules.specs.Stored.{Bytes}
+use Rattle.rules.specs.Stored.{ByteWrites}
 use Rattle.rules.specs.Rules.{ruled, toInt1, toInt2, someMapped, Leveled}
 use Rattle.rules.proofs.Reading.{elsewhereIn, statusesNow, byte-ruled}
 
@@ -47,7 +47,7 @@ leveled active high opendrive = record {
   idle-low = λ a o h. rw (a, o, h);
 }
 
-module _ (es : List Event) (b : Bytes es) where
+module _ (es : List Event) (b : ByteWrites es) where
   -- what is read at an address
   abbrev r : ℕ → ℕ
   r = ruled (elsewhereIn (after es)) es

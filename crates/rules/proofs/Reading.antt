@@ -32,8 +32,8 @@ use Rattle.events.specs.Event.{Event, read, Given, gives, bytes}
 use Rattle.events.specs.Run.{after, told}
 use Rattle.events.specs.Bank.{stored}
 use Rattle.events.proofs.Runs.{bank-is}
-use Rattle.rules.specs.Stored.{Bytes}
-use Rattle.rules.specs.Bursts.{isBurst, singles, joined}
+use Rattle.rules.specs.Stored.{ByteWrites}
+use Rattle.rules.specs.Bursts.{isBurst, singles, bytesJoined}
 use Rattle.rules.specs.Data.{lastSample}
 use Rattle.rules.specs.Rules.{Elsewhere, dataStatus, fullStatus, watermarkStatus, ruled, ruledFrom}
 use Rattle.rules.proofs.Proper.{deep, proper}
@@ -89,7 +89,7 @@ module _ (es : List Event) where
   unfolding statusByte statusesOf
   motion-byte = rw add-zero
 
-  module _ (b : Bytes es) where
+  module _ (b : ByteWrites es) where
     data-byte : statusByte 0x0A statusesNow ≡ worth 128 (dataStatus w es) + worth 64 (watermarkStatus w es) + worth 32 (fullStatus w es)
     unfolding statusByte statusesOf
     data-byte =
@@ -118,20 +118,20 @@ same-elsewhere : (es : List Event) (a : ℕ) → a < 0x3F → elsewhereIn (after
 unfolding after
 same-elsewhere es a h = ap elsewhereIn (single-next (after es) a h)
 
-module _ (es : List Event) (b : Bytes es) (a n : ℕ) (h : a < 0x3F) where
+module _ (es : List Event) (b : ByteWrites es) (a n : ℕ) (h : a < 0x3F) where
   one-ruled : gives (after es) (read a 1) ≡ bytes (ruled (elsewhereIn (after es)) es a ∷ [])
   one-ruled = single (after es) a h ∙ rw (byte-ruled es b a (omega arith))
 
-  more-ruled : joined (told (after (read a 1 ∷ es)) (singles (suc a) n)) ≡ ruledFrom (elsewhereIn (after (read a 1 ∷ es))) (read a 1 ∷ es) (suc a) n
-      → joined (told (after es) (singles a (suc n))) ≡ ruledFrom (elsewhereIn (after es)) es a (suc n)
+  more-ruled : bytesJoined (told (after (read a 1 ∷ es)) (singles (suc a) n)) ≡ ruledFrom (elsewhereIn (after (read a 1 ∷ es))) (read a 1 ∷ es) (suc a) n
+      → bytesJoined (told (after es) (singles a (suc n))) ≡ ruledFrom (elsewhereIn (after es)) es a (suc n)
   unfolding after
   more-ruled same = rw (ap (λ (g : Given). g .bytes) one-ruled, same, same-elsewhere es a h)
 
-singles-ruled : (es : List Event) → Bytes es → (a n : ℕ) → a + n ≤ 0x3F → joined (told (after es) (singles a n)) ≡ ruledFrom (elsewhereIn (after es)) es a n
+singles-ruled : (es : List Event) → ByteWrites es → (a n : ℕ) → a + n ≤ 0x3F → bytesJoined (told (after es) (singles a n)) ≡ ruledFrom (elsewhereIn (after es)) es a n
 singles-ruled es b a zero h = refl
 singles-ruled es b a (suc n) h = more-ruled es b a n (omega arith) (singles-ruled (read a 1 ∷ es) b (suc a) n (omega arith))
 
-pub reads : (es : List Event) → Bytes es → (a n : ℕ) → isBurst a n ≡ true → gives (after es) (read a n) ≡ bytes (ruledFrom (elsewhereIn (after es)) es a n)
+pub reads : (es : List Event) → ByteWrites es → (a n : ℕ) → isBurst a n ≡ true → gives (after es) (read a n) ≡ bytes (ruledFrom (elsewhereIn (after es)) es a n)
 reads es b a n h = burst-gives (after es) a n h ∙ rw (singles-ruled es b a n (burst-bounds a n h .1))
 
 -- ---- the rule of each address that is not of the table
@@ -147,7 +147,7 @@ module _ (es : List Event) where
   reads-motion = single (after es) 0x09 (omega arith) ∙ rw (motion-byte es)
 
   -- "data (0x0A bit 7)", "watermark (0x0A bit 6)", "full (0x0A bit 5)"
-  pub reads-interrupts : Bytes es → let w = elsewhereIn (after es) in gives (after es) (read 0x0A 1) ≡ bytes ((worth 128 (dataStatus w es) + worth 64 (watermarkStatus w es) + worth 32 (fullStatus w es)) ∷ [])
+  pub reads-interrupts : ByteWrites es → let w = elsewhereIn (after es) in gives (after es) (read 0x0A 1) ≡ bytes ((worth 128 (dataStatus w es) + worth 64 (watermarkStatus w es) + worth 32 (fullStatus w es)) ∷ [])
   unfolding byteFrom shownByte
   reads-interrupts b = single (after es) 0x0A (omega arith) ∙ rw (data-byte es b)
 

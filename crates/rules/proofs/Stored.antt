@@ -21,7 +21,7 @@ use Rattle.events.specs.Event as event
 use Rattle.events.specs.Bank.{bank, stored}
 use Rattle.events.proofs.Runs.{bank-is, bank-length}
 use Rattle.rules.specs.Paper.{resetOf, accepts}
-use Rattle.rules.specs.Stored.{Bytes, isSpared, none, last, lastWrite, byteLeft, byteBy}
+use Rattle.rules.specs.Stored.{ByteWrites, isSpared, none, last, lastWrite, byteLeft, byteBy}
 use Rattle.rules.specs.Proper.{isStored}
 use Rattle.rules.proofs.Paper.{reset-is, masked-is, masked-none, accepts-is}
 use Rattle.rules.proofs.Proper.{proper}
@@ -74,7 +74,7 @@ module _ (es : List Event) (a : ℕ) (h : a < 64) where
       go true f = rw (← eqb-true a c f) (own byte k e)
       go false f = other c byte f e
 
-pub stored-is : (es : List Event) → Bytes es → (a : ℕ) → a < 64 → stored es a ≡ byteBy es a
+pub stored-is : (es : List Event) → ByteWrites es → (a : ℕ) → a < 64 → stored es a ≡ byteBy es a
 unfolding bank byteBy
 stored-is [] b a h = reset-is a h
 stored-is (event.powerUp ∷ es) b a h = reset-is a h

@@ -6,7 +6,7 @@ use lib.Dec.{ltb, leb}
 use Rattle.laws.specs.Choice.{pick, both}
 use Rattle.laws.specs.Table.{upFrom}
 use Rattle.events.specs.Event.{Event, powerUp, write, read, sample, cycle, Given}
-use Rattle.events.specs.Run.{behind}
+use Rattle.events.specs.Run.{scriptOnto}
 
 -- an accepted burst below 0x3F, of n bytes from address a on: at least one, and none past 0x3E
 abbrev pub isBurst : ℕ → ℕ → Bool
@@ -17,15 +17,15 @@ abbrev pub singles : ℕ → ℕ → List Event
 singles a n = upFrom (λ k. read k 1) a n
 
 -- the bytes that several events give, one after the other
-abbrev pub joined : List Given → List ℕ
-joined [] = []
-joined (g ∷ gs) = g .bytes ++ joined gs
+abbrev pub bytesJoined : List Given → List ℕ
+bytesJoined [] = []
+bytesJoined (g ∷ gs) = g .bytes ++ bytesJoined gs
 
 -- a history in which single reads stand for each burst below 0x3F
 unfoldable pub opened : List Event → List Event
 opened [] = []
 opened (powerUp ∷ es) = powerUp ∷ opened es
 opened (write a byte ∷ es) = write a byte ∷ opened es
-opened (read a n ∷ es) = pick (isBurst a n) (behind (singles a n) (opened es)) (read a n ∷ opened es)
+opened (read a n ∷ es) = pick (isBurst a n) (scriptOnto (singles a n) (opened es)) (read a n ∷ opened es)
 opened (sample x y z temperature ∷ es) = sample x y z temperature ∷ opened es
 opened (cycle ∷ es) = cycle ∷ opened es

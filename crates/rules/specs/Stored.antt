@@ -10,13 +10,13 @@ use Rattle.events.specs.Views.{isPowerUp, atWrite}
 use Rattle.rules.specs.Paper.{resetOf, masked, accepts}
 
 -- what is written is always a byte
-abbrev pub Bytes : List Event → Type 0
-Bytes [] = Unit {0}
-Bytes (powerUp ∷ es) = Bytes es
-Bytes (write a byte ∷ es) = (byte < 256) × Bytes es
-Bytes (read a n ∷ es) = Bytes es
-Bytes (sample x y z temperature ∷ es) = Bytes es
-Bytes (cycle ∷ es) = Bytes es
+abbrev pub ByteWrites : List Event → Type 0
+ByteWrites [] = Unit {0}
+ByteWrites (powerUp ∷ es) = ByteWrites es
+ByteWrites (write a byte ∷ es) = (byte < 256) × ByteWrites es
+ByteWrites (read a n ∷ es) = ByteWrites es
+ByteWrites (sample x y z temperature ∷ es) = ByteWrites es
+ByteWrites (cycle ∷ es) = ByteWrites es
 
 -- "14: 0xB6 is a soft reset"
 abbrev pub isSoftReset : ℕ → ℕ → Bool
