@@ -3,12 +3,16 @@
 use mathlib.Core.Path.{refl}
 use Rattle.laws.specs.Outcome.{Settled}
 use Rattle.laws.proofs.Outcome.{settles, meet}
+use Rattle.twin.proofs.step as step
 use Rattle.twin.proofs.pins_code as pins-code
 use Rattle.twin.proofs.twin_event as twin-event
 use Rattle.twin.proofs.twin_power_up as twin-power-up
 use Rattle.twin.proofs.twin_pins as twin-pins
 use Rattle.twin.proofs.twin_size as twin-size
 use Rattle.twin.proofs.twin_alignment as twin-alignment
+
+pub step-settled : Settled step.ended (λ M. step.clauses) (λ M. step.spec)
+step-settled = settles (λ κs a r r′ s s′ p q. (meet (p .0) (q .0), λ i. (tt, (tt, (tt, (tt, (tt, (tt, (tt, (meet (p .1) (q .1) i, tt))))))))))
 
 pub pins-code-settled : Settled pins-code.ended (λ M. pins-code.clauses) (λ M. pins-code.spec)
 pins-code-settled = settles (λ κs a r r′ s s′ p q. (meet p q, refl))

@@ -11,10 +11,12 @@ use Rattle.interrupts.specs.declared.Level.the-variants.{Low, High, Released}
 use Rattle.device.specs.Show.{pinsOf}
 use Rattle.device.specs.Read.{bufferAfter}
 use Rattle.device.specs.declared.Device.{Device}
+use Rattle.device.specs.declared.Answered.{Answered}
 use Rattle.events.specs.Event.{Event, powerUp, write, read, sample, cycle, happens}
 use Rattle.benchlog.specs.Answers.{foundNumber}
 use Rattle.benchlog.specs.Format.{writeKind, readKind, sampleKind, cycleKind}
 use Rattle.benchlog.specs.declared.Found.the-variants.{WrongRecord}
+use Rattle.twin.specs.declared.Stepped.{Stepped}
 
 -- "1 write (address, byte; ..), 2 read (address, count; ..), 3 sample (x, y, z .., temperature; ..), 4 cycle start": the event of a
 -- kind, an address, a byte, which is the temperature of a sample, x, y, z, and the count of bytes to read. Any other kind has none.
@@ -29,14 +31,14 @@ kinds address byte x y z count =
 unfoldable pub asked : ℕ → ℕ → ℕ → ℤ → ℤ → ℤ → ℕ → Option Event
 asked kind address byte x y z count = meaningOf (kinds address byte x y z count) none kind
 
--- its number; without an event 8, "record length or kind wrong", and nothing changes
-abbrev pub numberAt : Device → Option Event → ℕ
-numberAt d (some e) = number (happens d e .answer)
-numberAt d none = foundNumber WrongRecord
+-- an event's answer by its number
+abbrev pub numberedOf : Answered → Stepped
+numberedOf done = record { number = number (done .answer); device = done .device }
 
-abbrev pub deviceAt : Device → Option Event → Device
-deviceAt d (some e) = happens d e .device
-deviceAt d none = d
+-- what is asked for, done; without an event 8, "record length or kind wrong", and the device as it was
+abbrev pub stepOf : Device → Option Event → Stepped
+stepOf d (some e) = numberedOf (happens d e)
+stepOf d none = record { number = foundNumber WrongRecord; device = d }
 
 -- the lent buffer after an event: only a read writes there
 abbrev pub lentBy : Device → Event → List ℕ → List ℕ

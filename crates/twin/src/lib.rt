@@ -4,17 +4,61 @@ ghost use lib.ListN.{length};
 ghost use prog.Memory.{size, align};
 ghost use Rattle.device.proofs.Device.Laws.{mir as deviceType};
 ghost use Rattle.device.specs.Device.{powerUp};
-ghost use Rattle.twin.specs.Entry.{asked, numberAt, deviceAt, lentAt, pinsCode, levelCode};
+ghost use Rattle.twin.specs.Entry.{asked, numberedOf, stepOf, lentAt, pinsCode, levelCode};
 use benchlog::CYCLE;
+use benchlog::Found;
 use benchlog::READ;
 use benchlog::SAMPLE;
 use benchlog::WRITE;
+use benchlog::found_number_of;
+use device::Answered;
 use device::Device;
 use interrupts::Level;
 use registers::number_of;
 
-// What an event of a kind that there is not answers: the log's number for a record of a wrong kind.
-pub const NO_KIND: u8 = 8;
+// The number of an event's answer, and the device after it.
+pub struct Stepped {
+    pub number: u8,
+    pub device: Device,
+}
+
+fn numbered(done: Answered) -> Stepped
+    ensures { λ r. ⌜ r ≡ numberedOf done ⌝ }
+{
+    let answer = done.answer;
+    let device = done.device;
+    Stepped {
+        number: number_of(answer),
+        device,
+    }
+}
+
+// One event, by its kind in the log: a write of a byte, a read of as many bytes as the buffer has, a sample whose temperature is the
+// byte, or the start of a cycle. Any other kind is refused.
+pub fn step(
+    device: Device,
+    kind: u8,
+    address: u8,
+    byte: u8,
+    x: i16,
+    y: i16,
+    z: i16,
+    buffer: &mut [u8],
+) -> Stepped
+    ensures { λ r. ⌜ (r ≡ stepOf device (asked kind address byte x y z (length (now (buffer .entry)))))
+        × (now (buffer .exit) ≡ lentAt device (asked kind address byte x y z (length (now (buffer .entry)))) (now (buffer .entry))) ⌝ }
+{
+    match kind {
+        WRITE => numbered(device.write(address, byte)),
+        READ => numbered(device.read(address, buffer)),
+        SAMPLE => numbered(device.sample(x, y, z, byte)),
+        CYCLE => numbered(device.start_cycle()),
+        _ => Stepped {
+            number: found_number_of(Found::WrongRecord),
+            device,
+        },
+    }
+}
 
 // 0 for low, 1 for high, 2 for released.
 fn level_code(level: Level) -> u8
@@ -49,33 +93,13 @@ pub extern "C" fn twin_event(
     z: i16,
     buffer: &mut [u8],
 ) -> u8
-    ensures { λ r. ⌜ (r ≡ numberAt (now (d .entry)) (asked kind address byte x y z (length (now (buffer .entry)))))
-        × (now (d .exit) ≡ deviceAt (now (d .entry)) (asked kind address byte x y z (length (now (buffer .entry)))))
+    ensures { λ r. ⌜ (r ≡ stepOf (now (d .entry)) (asked kind address byte x y z (length (now (buffer .entry)))) .number)
+        × (now (d .exit) ≡ stepOf (now (d .entry)) (asked kind address byte x y z (length (now (buffer .entry)))) .device)
         × (now (buffer .exit) ≡ lentAt (now (d .entry)) (asked kind address byte x y z (length (now (buffer .entry)))) (now (buffer .entry))) ⌝ }
 {
-    match kind {
-        WRITE => {
-            let done = (*d).write(address, byte);
-            *d = done.device;
-            number_of(done.answer)
-        }
-        READ => {
-            let done = (*d).read(address, buffer);
-            *d = done.device;
-            number_of(done.answer)
-        }
-        SAMPLE => {
-            let done = (*d).sample(x, y, z, byte);
-            *d = done.device;
-            number_of(done.answer)
-        }
-        CYCLE => {
-            let done = (*d).start_cycle();
-            *d = done.device;
-            number_of(done.answer)
-        }
-        _ => NO_KIND,
-    }
+    let s = step(*d, kind, address, byte, x, y, z, buffer);
+    *d = s.device;
+    s.number
 }
 
 // Power-up of the harness's own record.
