@@ -1,93 +1,184 @@
-/* The accelerometer twin for C: link libtwin.a, which `examples/firmware/build` makes (x86-64).
+/* The twin of the BMA253 and BMA255 accelerometers, for firmware and harnesses in C99 or C++11 and later. Link libtwin.a (x86-64).
  *
- * The record is the harness's own. What the caller owes: a pointer to a whole record that is zeroed or was left by one of these
- * functions, and a buffer of the length passed with it, outside the record. The functions in libtwin.a cannot tell a null or short buffer;
- * twin_write, twin_read, twin_sample and twin_cycle below refuse what C can see. */
+ *     static struct twin chip;
+ *     uint8_t id;
+ *     twin_power_up(&chip);
+ *     if (twin_read(&chip, 0x00, &id, 1) == TWIN_DONE) printf("chip %02X\n", id); // chip FA
+ *
+ * A record is one chip. It is the caller's own, wherever the caller keeps it: nothing is allocated, and there are no variables behind
+ * the scenes. A copy of a record, by assignment or memcpy, is a second chip in the same state. Threads: one record, one thread at a
+ * time; two records have nothing to do with each other.
+ *
+ * What the caller owes, since C cannot see it: a pointer that is not NULL leads to a whole struct twin, and a buffer has as many bytes
+ * as the count says. All else is answered by a number, and whatever is refused changes neither the record nor the buffer. */
 #ifndef TWIN_H
 #define TWIN_H
 
 #include <stdbool.h>
 #include <stddef.h>
 #include <stdint.h>
+#include <string.h>
 
-/* The record, field for field as the library has it. Private: use the functions. Padding between the fields has no meaning and may
- * change at any event, so memcmp does not compare two records. */
-struct twin_channel { uint16_t code; bool fresh, locked; uint8_t held; };
-struct twin {
-    uint8_t regs[64];
-    struct { struct twin_channel x, y, z; } channels;
-    uint8_t temperature;
-    bool came;
-    uint8_t frames[192];
-    struct { size_t count; bool overrun; } fifo;
-    struct {
-        struct { int16_t x, y, z; bool known; } previous;
-        struct {
-            struct { uint8_t over, calm; } runs;
-            struct { bool status; uint8_t mark; bool negative; } alarm;
-        } motion;
-    } detectors;
-};
-enum { TWIN_SIZE = 312, TWIN_ALIGN = 8 };
-_Static_assert(sizeof(struct twin) == TWIN_SIZE, "the record's size is the library's");
-_Static_assert(_Alignof(struct twin) == TWIN_ALIGN, "the record's alignment is the library's");
+/* The version of this header and of the library beside it: the last number moves where no name does, the middle one where names are
+ * added, the first where a caller may have to be changed. */
+#define TWIN_VERSION_MAJOR 1
+#define TWIN_VERSION_MINOR 0
+#define TWIN_VERSION_PATCH 0
+#define TWIN_VERSION "1.0.0"
 
-/* What an event answers. A refusal changes nothing. */
+#ifdef __cplusplus
+extern "C" {
+#endif
+
+/* ---- numbers */
+
+/* What an event answers. */
 enum twin_answer {
     TWIN_DONE = 0,          /* done, or a write that the chip ignores */
     TWIN_NO_ADDRESS = 1,    /* address above 0x3F */
     TWIN_RESERVED_CODE = 2, /* write of a code that the sheet reserves */
     TWIN_NOT_MODELLED = 3,  /* write of a setting that the twin lacks */
     TWIN_OUT_OF_RANGE = 4,  /* x, y or z outside -2048..2047 */
-    TWIN_BAD_LENGTH = 5,    /* read length 0 or above 192, or no buffer */
+    TWIN_BAD_LENGTH = 5,    /* read length 0 or above 192 */
     TWIN_PAST_END = 6,      /* read starting below 0x3F that would pass 0x3E */
-    TWIN_NO_KIND = 8        /* a kind of event that does not exist */
+    TWIN_NO_KIND = 8,       /* a kind of event that does not exist */
+    /* for a call that is no event at all; these are looked at first */
+    TWIN_MISFIT = 253,      /* power-up of a record that is not aligned, or with a library that needs more than TWIN_ROOM */
+    TWIN_BAD_BUFFER = 254,  /* NULL with a count that is not 0, or a buffer that overlaps the record */
+    TWIN_NOT_POWERED = 255  /* NULL for a record, or one that was not powered up */
 };
 
 /* The kinds of event, as in the bench log. */
 enum twin_kind { TWIN_WRITE = 1, TWIN_READ = 2, TWIN_SAMPLE = 3, TWIN_CYCLE = 4 };
 
+/* What a pin shows. */
 enum twin_level { TWIN_LOW = 0, TWIN_HIGH = 1, TWIN_RELEASED = 2 };
 
-/* The size and alignment of the library's record, proved: they are TWIN_SIZE and TWIN_ALIGN where header and library fit. */
-size_t twin_size(void);
-size_t twin_alignment(void);
+#define TWIN_CHIP 0xFA        /* what register 0x00 holds */
+#define TWIN_LONGEST_READ 192 /* bytes */
+#define TWIN_ROOM 512         /* bytes of a record, of which the library uses the first twin_size() */
 
-/* The record becomes that of a chip at power-up. */
+/* ---- the record: room for the library's own, with some left for what later versions add. Use the functions. */
+struct twin {
+    uint64_t room[TWIN_ROOM / 8];
+};
+
+/* ---- the library. Its functions are proved for every record and every buffer, but they cannot tell a pointer to nothing. So the
+ * header stands in front of the last three: below, their names are given to functions that look first. */
+
+size_t twin_size(void);      /* the bytes of the library's record, at most TWIN_ROOM */
+size_t twin_alignment(void); /* what its address is a multiple of */
 void twin_power_up(struct twin *twin);
-
-/* One event: 1 write (address, byte), 2 read (address; length bytes into buffer), 3 sample (x, y, z; byte is the temperature),
- * 4 cycle start. Answers its number; a refusal leaves record and buffer as they were. */
 uint8_t twin_event(struct twin *twin, uint8_t kind, uint8_t address, uint8_t byte, int16_t x, int16_t y, int16_t z, uint8_t *buffer,
                    size_t length);
-
-/* Both pin levels: that of INT1 plus 4 times that of INT2. Changes nothing. */
 uint8_t twin_pins(const struct twin *twin);
 
-/* ---- the same for one kind each, with what C can see refused */
+/* Whether it was powered up: the library's record begins with register 0x00, which never changes. A record that was left as the memory
+ * was, not zeroed, may begin with that byte by chance. */
+static inline bool twin_is_powered(const struct twin *twin) {
+    return twin != NULL && *(const unsigned char *)twin == TWIN_CHIP;
+}
+
+/* Whether it is NULL with a count, or overlaps the record. A count above TWIN_LONGEST_READ is refused and no byte is touched, so only
+ * the number speaks of it. */
+static inline bool twin_is_bad_buffer(const struct twin *twin, const uint8_t *buffer, size_t length) {
+    uintptr_t record = (uintptr_t)twin, start = (uintptr_t)buffer;
+    if (buffer == NULL) return length != 0;
+    if (length == 0 || length > TWIN_LONGEST_READ) return false;
+    return start < record ? record - start < length : start - record < TWIN_ROOM;
+}
+
+/* ---- functions for every caller */
+
+/* The record becomes that of a chip at power-up, whatever it held: no byte of it stays as it was. Answers TWIN_DONE; TWIN_NOT_POWERED
+ * for NULL; TWIN_MISFIT, with a record that refuses everything until it is powered up. */
+static inline uint8_t twin_checked_power_up(struct twin *twin) {
+    if (twin == NULL) return TWIN_NOT_POWERED;
+    memset(twin, 0, sizeof *twin);
+    if (twin_size() > sizeof *twin || (uintptr_t)twin % twin_alignment() != 0) return TWIN_MISFIT;
+    twin_power_up(twin);
+    return TWIN_DONE;
+}
+#define twin_power_up twin_checked_power_up
+
+/* One event: TWIN_WRITE (address, byte), TWIN_READ (address; length bytes into buffer), TWIN_SAMPLE (x, y, z; byte is the temperature)
+ * or TWIN_CYCLE. What the kind does not name is not looked at; buffer may be NULL where length is 0. */
+static inline uint8_t twin_checked_event(struct twin *twin, uint8_t kind, uint8_t address, uint8_t byte, int16_t x, int16_t y, int16_t z,
+                                         uint8_t *buffer, size_t length) {
+    uint8_t none = 0;
+    if (!twin_is_powered(twin)) return TWIN_NOT_POWERED;
+    if (twin_is_bad_buffer(twin, buffer, length)) return TWIN_BAD_BUFFER;
+    return twin_event(twin, kind, address, byte, x, y, z, buffer == NULL ? &none : buffer, length);
+}
+#define twin_event twin_checked_event
+
+/* Both pin levels, that of INT1 plus 4 times that of INT2, or TWIN_NOT_POWERED. Changes nothing. */
+static inline uint8_t twin_checked_pins(const struct twin *twin) {
+    return twin_is_powered(twin) ? twin_pins(twin) : (uint8_t)TWIN_NOT_POWERED;
+}
+#define twin_pins twin_checked_pins
+
+/* A register write. */
 static inline uint8_t twin_write(struct twin *twin, uint8_t address, uint8_t byte) {
-    uint8_t none;
-    return twin_event(twin, TWIN_WRITE, address, byte, 0, 0, 0, &none, 0);
+    return twin_event(twin, TWIN_WRITE, address, byte, 0, 0, 0, NULL, 0);
 }
 
+/* A burst read: length bytes from address on into buffer; at 0x3F, the FIFO's frames. */
 static inline uint8_t twin_read(struct twin *twin, uint8_t address, uint8_t *buffer, size_t length) {
-    uint8_t none;
-    if (buffer == NULL) length = 0; /* refused 5, or 1 where the address is wrong too */
-    return twin_event(twin, TWIN_READ, address, 0, 0, 0, 0, buffer == NULL ? &none : buffer, length);
+    return twin_event(twin, TWIN_READ, address, 0, 0, 0, 0, buffer, length);
 }
 
+/* The nearest number of 16 bits. What it moves lies outside -2048..2047 before and after. */
+static inline int16_t twin_nearest_16(int value) {
+    return (int16_t)(value < INT16_MIN ? INT16_MIN : value > INT16_MAX ? INT16_MAX : value);
+}
+
+/* A sample, as counts of 12 bits, and the byte of the temperature register 0x08. */
 static inline uint8_t twin_sample(struct twin *twin, int x, int y, int z, uint8_t temperature) {
-    uint8_t none;
-    if (x < INT16_MIN || x > INT16_MAX || y < INT16_MIN || y > INT16_MAX || z < INT16_MIN || z > INT16_MAX) return TWIN_OUT_OF_RANGE;
-    return twin_event(twin, TWIN_SAMPLE, 0, temperature, (int16_t)x, (int16_t)y, (int16_t)z, &none, 0);
+    return twin_event(twin, TWIN_SAMPLE, 0, temperature, twin_nearest_16(x), twin_nearest_16(y), twin_nearest_16(z), NULL, 0);
 }
 
+/* The start of an acquisition cycle. */
 static inline uint8_t twin_cycle(struct twin *twin) {
-    uint8_t none;
-    return twin_event(twin, TWIN_CYCLE, 0, 0, 0, 0, 0, &none, 0);
+    return twin_event(twin, TWIN_CYCLE, 0, 0, 0, 0, 0, NULL, 0);
 }
 
-static inline enum twin_level twin_int1(const struct twin *twin) { return (enum twin_level)(twin_pins(twin) % 4); }
-static inline enum twin_level twin_int2(const struct twin *twin) { return (enum twin_level)(twin_pins(twin) / 4); }
+/* The level of a pin: TWIN_LOW, TWIN_HIGH or TWIN_RELEASED; or TWIN_NOT_POWERED. */
+static inline uint8_t twin_int1(const struct twin *twin) {
+    uint8_t pins = twin_pins(twin);
+    return pins == TWIN_NOT_POWERED ? pins : (uint8_t)(pins % 4);
+}
+
+static inline uint8_t twin_int2(const struct twin *twin) {
+    uint8_t pins = twin_pins(twin);
+    return pins == TWIN_NOT_POWERED ? pins : (uint8_t)(pins / 4);
+}
+
+/* An answer in words. */
+static inline const char *twin_answer_name(uint8_t answer) {
+    switch (answer) {
+    case TWIN_DONE: return "done";
+    case TWIN_NO_ADDRESS: return "address above 0x3F";
+    case TWIN_RESERVED_CODE: return "code that the sheet reserves";
+    case TWIN_NOT_MODELLED: return "setting that the twin lacks";
+    case TWIN_OUT_OF_RANGE: return "sample outside -2048..2047";
+    case TWIN_BAD_LENGTH: return "read length 0 or above 192";
+    case TWIN_PAST_END: return "read that would pass 0x3E";
+    case TWIN_NO_KIND: return "kind of event that does not exist";
+    case TWIN_MISFIT: return "record that does not fit the library";
+    case TWIN_BAD_BUFFER: return "no buffer, or one that overlaps the record";
+    case TWIN_NOT_POWERED: return "record that was not powered up";
+    default: return "not an answer";
+    }
+}
+
+/* TWIN_VERSION, as a function. */
+static inline const char *twin_version(void) {
+    return TWIN_VERSION;
+}
+
+#ifdef __cplusplus
+}
+#endif
 
 #endif

@@ -1,6 +1,6 @@
-/* Checks twin.c by calls and replay.c by running it, against the cases that the rules print and
+/* Checks peer.c by calls and replay.c by running it, against the cases that the rules print and
    the edges around them. Usage: cases [COMMAND], where COMMAND runs the replay program. */
-#include "twin.h"
+#include "peer.h"
 
 #include <stdarg.h>
 #include <stdio.h>
@@ -42,39 +42,39 @@ static size_t from_hex(const char *hex, uint8_t *bytes)
 }
 
 /* Whether a burst from the address gives these bytes. */
-static bool gives(struct twin *t, uint8_t address, const char *hex)
+static bool gives(struct peer *t, uint8_t address, const char *hex)
 {
-    uint8_t wanted[LONGEST_READ], got[LONGEST_READ];
+    uint8_t wanted[PEER_LONGEST_READ], got[PEER_LONGEST_READ];
     size_t length = from_hex(hex, wanted);
 
-    return twin_read(t, address, got, length) == DONE && memcmp(wanted, got, length) == 0;
+    return peer_read(t, address, got, length) == PEER_DONE && memcmp(wanted, got, length) == 0;
 }
 
-static enum answer reads(struct twin *t, uint8_t address, size_t length)
+static enum peer_answer reads(struct peer *t, uint8_t address, size_t length)
 {
     uint8_t buffer[256];
 
-    return twin_read(t, address, buffer, length);
+    return peer_read(t, address, buffer, length);
 }
 
-static enum answer sample_x(struct twin *t, int x)
+static enum peer_answer sample_x(struct peer *t, int x)
 {
-    return twin_sample(t, x, 0, 0, 0);
+    return peer_sample(t, x, 0, 0, 0);
 }
 
 /* A fresh twin with one register written. */
-static struct twin fresh(uint8_t address, uint8_t byte)
+static struct peer fresh(uint8_t address, uint8_t byte)
 {
-    struct twin t;
+    struct peer t;
 
-    twin_power_up(&t);
-    twin_write(&t, address, byte);
+    peer_power_up(&t);
+    peer_write(&t, address, byte);
     return t;
 }
 
-static bool pins_are(const struct twin *t, enum level int1, enum level int2)
+static bool pins_are(const struct peer *t, enum peer_level int1, enum peer_level int2)
 {
-    struct pins pins = twin_pins(t);
+    struct peer_pins pins = peer_pins(t);
 
     return pins.int1 == int1 && pins.int2 == int2;
 }
@@ -83,13 +83,13 @@ static bool pins_are(const struct twin *t, enum level int1, enum level int2)
 
 static void p1_to_p4(void)
 {
-    struct twin t;
+    struct peer t;
 
-    twin_power_up(&t);
+    peer_power_up(&t);
     check(gives(&t, 0x00, "FA"), "P1 fresh 0x00 reads FA");
-    check(twin_write(&t, 0x00, 0x12) == 0 && gives(&t, 0x00, "FA"), "P1 after writing 12, FA");
-    check(twin_write(&t, 0x0F, 0xF5) == 0 && gives(&t, 0x0F, "05"), "P2 F5 reads back 05");
-    check(twin_write(&t, 0x0F, 0x04) == 2 && gives(&t, 0x0F, "05"), "P2 04 gives 2, 05 remains");
+    check(peer_write(&t, 0x00, 0x12) == 0 && gives(&t, 0x00, "FA"), "P1 after writing 12, FA");
+    check(peer_write(&t, 0x0F, 0xF5) == 0 && gives(&t, 0x0F, "05"), "P2 F5 reads back 05");
+    check(peer_write(&t, 0x0F, 0x04) == 2 && gives(&t, 0x0F, "05"), "P2 04 gives 2, 05 remains");
     check(reads(&t, 0x3E, 1) == 0, "P3 0x3E length 1 is 0");
     check(reads(&t, 0x3E, 2) == 6, "P3 0x3E length 2 is 6");
     check(reads(&t, 0x40, 0) == 1, "P3 0x40 length 0 is 1");
@@ -103,7 +103,7 @@ static void p1_to_p4(void)
 
 static void p5_to_p7(void)
 {
-    struct twin t = fresh(0x3E, 0x40);
+    struct peer t = fresh(0x3E, 0x40);
 
     for (int i = 1; i <= 32; i++)
         sample_x(&t, 16 * i);
@@ -126,37 +126,37 @@ static void p5_to_p7(void)
 
 static void p8_to_p10(void)
 {
-    struct twin t;
+    struct peer t;
 
-    twin_power_up(&t);
+    peer_power_up(&t);
     sample_x(&t, 291);
     check(gives(&t, 0x02, "31"), "P8 0x02 gives 31");
     sample_x(&t, -1);
     check(gives(&t, 0x03, "12") && gives(&t, 0x03, "FF"), "P8 0x03 gives 12, then FF");
     t = fresh(0x16, 0x01);
-    twin_write(&t, 0x28, 0x01);
-    twin_write(&t, 0x27, 0x00);
+    peer_write(&t, 0x28, 0x01);
+    peer_write(&t, 0x27, 0x00);
     sample_x(&t, 0);
     sample_x(&t, 4);
     check(gives(&t, 0x09, "000000"), "P9 not set at 4");
     sample_x(&t, 9);
     check(gives(&t, 0x09, "040001"), "P9 set at 9, 0x0B is 01");
     t = fresh(0x16, 0x01);
-    twin_write(&t, 0x28, 0x01);
+    peer_write(&t, 0x28, 0x01);
     sample_x(&t, 0);
     sample_x(&t, -5);
     check(gives(&t, 0x09, "040009"), "P9 afresh 0, -5: 0x0B is 09");
-    check(twin_write(&t, 0x21, 0x01) == 3 && gives(&t, 0x21, "00"), "P10 0x21=01 gives 3");
+    check(peer_write(&t, 0x21, 0x01) == 3 && gives(&t, 0x21, "00"), "P10 0x21=01 gives 3");
     check(gives(&t, 0x09, "04"), "P10 the refused write cleared nothing");
-    check(twin_write(&t, 0x21, 0x07) == 0 && gives(&t, 0x21, "07"), "P10 07 gives 0");
+    check(peer_write(&t, 0x21, 0x07) == 0 && gives(&t, 0x21, "07"), "P10 07 gives 0");
 }
 
 static void watermark(void)
 {
-    struct twin t = fresh(0x17, 0x40);
+    struct peer t = fresh(0x17, 0x40);
 
-    twin_write(&t, 0x30, 2);
-    twin_write(&t, 0x3E, 0x40);
+    peer_write(&t, 0x30, 2);
+    peer_write(&t, 0x3E, 0x40);
     sample_x(&t, 0);
     check(gives(&t, 0x0A, "00"), "watermark 2, one frame: 0");
     sample_x(&t, 0);
@@ -178,7 +178,7 @@ static const char table[] =
 
 static const char refused_3[] = "11:E0 16:F0 17:0F 18:07 32:03 33:0B 36:E7 38:FF 39:FF 3A:FF";
 
-static enum answer expected_answer(unsigned address, unsigned byte)
+static enum peer_answer expected_answer(unsigned address, unsigned byte)
 {
     unsigned of, bits;
     int taken;
@@ -198,16 +198,16 @@ static enum answer expected_answer(unsigned address, unsigned byte)
 static bool row_holds(unsigned address, unsigned reset, unsigned mask)
 {
     for (unsigned byte = 0; byte < 256; byte++) {
-        struct twin t;
+        struct peer t;
         uint8_t got;
-        enum answer wanted = expected_answer(address, byte);
+        enum peer_answer wanted = expected_answer(address, byte);
         unsigned after = wanted ? reset : (reset & ~mask) | (byte & mask);
 
-        twin_power_up(&t);
-        twin_read(&t, (uint8_t)address, &got, 1);
-        if (got != reset || twin_write(&t, (uint8_t)address, (uint8_t)byte) != wanted)
+        peer_power_up(&t);
+        peer_read(&t, (uint8_t)address, &got, 1);
+        if (got != reset || peer_write(&t, (uint8_t)address, (uint8_t)byte) != wanted)
             return false;
-        twin_read(&t, (uint8_t)address, &got, 1);
+        peer_read(&t, (uint8_t)address, &got, 1);
         if (got != after)
             return false;
     }
@@ -228,34 +228,34 @@ static void register_table(void)
 
 static void refusals_change_nothing(void)
 {
-    struct twin t = fresh(0x3E, 0x40), before;
+    struct peer t = fresh(0x3E, 0x40), before;
     uint8_t buffer[256], untouched[256];
 
     memset(buffer, 0x5A, sizeof buffer);
     memset(untouched, 0x5A, sizeof untouched);
-    twin_sample(&t, 1, 2, 3, 4);
+    peer_sample(&t, 1, 2, 3, 4);
     before = t;
-    check(twin_read(&t, 0x40, buffer, 1) == 1, "read at 0x40 is 1");
-    check(twin_read(&t, 0xFF, buffer, 255) == 1, "read at 0xFF is 1");
-    check(twin_read(&t, 0x00, buffer, 0) == 5, "length 0 is 5");
-    check(twin_read(&t, 0x00, buffer, 193) == 5, "length 193 at 0x00 is 5");
-    check(twin_read(&t, 0x3F, buffer, 255) == 5, "length 255 at 0x3F is 5");
-    check(twin_read(&t, 0x00, buffer, 64) == 6, "length 64 at 0x00 is 6");
-    check(twin_write(&t, 0x40, 0) == 1, "write at 0x40 is 1");
-    check(twin_write(&t, 0x3E, 0xC0) == 2, "3E=C0 is 2");
-    check(twin_sample(&t, 0, 2048, 0, 0) == 4, "y 2048 is 4");
-    check(twin_sample(&t, 0, 0, -2049, 0) == 4, "z -2049 is 4");
+    check(peer_read(&t, 0x40, buffer, 1) == 1, "read at 0x40 is 1");
+    check(peer_read(&t, 0xFF, buffer, 255) == 1, "read at 0xFF is 1");
+    check(peer_read(&t, 0x00, buffer, 0) == 5, "length 0 is 5");
+    check(peer_read(&t, 0x00, buffer, 193) == 5, "length 193 at 0x00 is 5");
+    check(peer_read(&t, 0x3F, buffer, 255) == 5, "length 255 at 0x3F is 5");
+    check(peer_read(&t, 0x00, buffer, 64) == 6, "length 64 at 0x00 is 6");
+    check(peer_write(&t, 0x40, 0) == 1, "write at 0x40 is 1");
+    check(peer_write(&t, 0x3E, 0xC0) == 2, "3E=C0 is 2");
+    check(peer_sample(&t, 0, 2048, 0, 0) == 4, "y 2048 is 4");
+    check(peer_sample(&t, 0, 0, -2049, 0) == 4, "z -2049 is 4");
     check(memcmp(&t, &before, sizeof t) == 0, "refusals leave the twin as it was");
     check(memcmp(buffer, untouched, sizeof buffer) == 0, "refusals leave the buffer as it was");
-    check(twin_read(&t, 0x00, buffer, 63) == 0, "length 63 at 0x00 is 0");
-    check(twin_read(&t, 0x3F, buffer, 192) == 0, "length 192 at 0x3F is 0");
+    check(peer_read(&t, 0x00, buffer, 63) == 0, "length 63 at 0x00 is 0");
+    check(peer_read(&t, 0x3F, buffer, 192) == 0, "length 192 at 0x3F is 0");
 }
 
 static void locks(void)
 {
-    struct twin t;
+    struct peer t;
 
-    twin_power_up(&t);
+    peer_power_up(&t);
     check(gives(&t, 0x02, "00"), "fresh 0x02 is 00, and locks");
     sample_x(&t, 291);
     check(gives(&t, 0x03, "00") && gives(&t, 0x03, "12"), "locked to 0 before any sample");
@@ -265,11 +265,11 @@ static void locks(void)
     check(gives(&t, 0x03, "FF"), "reading the LSB again locks anew");
     check(gives(&t, 0x02, "F0"), "reading the MSB leaves new-data alone");
     sample_x(&t, 0);
-    twin_write(&t, 0x13, 0x80);
+    peer_write(&t, 0x13, 0x80);
     check(gives(&t, 0x03, "FF"), "0x13 with bit 6 at 0 keeps the lock");
     check(gives(&t, 0x02, "01"), "locked once more");
     sample_x(&t, -1);
-    twin_write(&t, 0x13, 0x40);
+    peer_write(&t, 0x13, 0x40);
     check(gives(&t, 0x03, "FF"), "0x13 with bit 6 at 1 releases the lock");
     check(gives(&t, 0x02, "F1"), "LSB with shadow off");
     sample_x(&t, 0);
@@ -278,71 +278,71 @@ static void locks(void)
 
 static void fifo(void)
 {
-    struct twin t;
+    struct peer t;
 
-    twin_power_up(&t);
+    peer_power_up(&t);
     sample_x(&t, 1);
     check(gives(&t, 0x0E, "01"), "BYPASS holds one");
     sample_x(&t, 2);
     check(gives(&t, 0x0E, "81"), "BYPASS overrun at the second");
     check(gives(&t, 0x3F, "21000100010000"), "BYPASS gives the newer, then zero");
     check(gives(&t, 0x0E, "80"), "draining keeps overrun");
-    check(twin_write(&t, 0x3E, 0x82) == 0 && gives(&t, 0x0E, "00"), "3E clears overrun");
-    twin_sample(&t, 1, -2, 3, 0);
+    check(peer_write(&t, 0x3E, 0x82) == 0 && gives(&t, 0x0E, "00"), "3E clears overrun");
+    peer_sample(&t, 1, -2, 3, 0);
     check(gives(&t, 0x3F, "E1FF00"), "y alone");
-    twin_write(&t, 0x3E, 0x83);
-    twin_sample(&t, 1, -2, 3, 0);
+    peer_write(&t, 0x3E, 0x83);
+    peer_sample(&t, 1, -2, 3, 0);
     check(gives(&t, 0x3F, "3100"), "z alone");
-    twin_write(&t, 0x3E, 0x3D);
-    twin_sample(&t, 1, -2, 3, 0);
+    peer_write(&t, 0x3E, 0x3D);
+    peer_sample(&t, 1, -2, 3, 0);
     check(gives(&t, 0x3E, "01") && gives(&t, 0x3F, "110000"), "x alone");
-    twin_sample(&t, 1, -2, 3, 0);
-    check(twin_write(&t, 0x3E, 0xC1) == 2 && gives(&t, 0x0E, "01"), "refused 3E empties nothing");
-    check(twin_write(&t, 0x30, 5) == 0 && gives(&t, 0x0E, "01"), "0x30 empties nothing");
-    check(twin_write(&t, 0x3E, 0x01) == 0 && gives(&t, 0x0E, "00"), "the same byte empties");
+    peer_sample(&t, 1, -2, 3, 0);
+    check(peer_write(&t, 0x3E, 0xC1) == 2 && gives(&t, 0x0E, "01"), "refused 3E empties nothing");
+    check(peer_write(&t, 0x30, 5) == 0 && gives(&t, 0x0E, "01"), "0x30 empties nothing");
+    check(peer_write(&t, 0x3E, 0x01) == 0 && gives(&t, 0x0E, "00"), "the same byte empties");
 }
 
 /* N = 2, threshold 4 on y and z. */
 static void runs(void)
 {
-    struct twin t = fresh(0x16, 0x06);
+    struct peer t = fresh(0x16, 0x06);
 
-    twin_write(&t, 0x28, 1);
-    twin_write(&t, 0x27, 0x01);
-    twin_sample(&t, 0, 0, 0, 0);
-    twin_sample(&t, 2047, 5, 0, 0);
+    peer_write(&t, 0x28, 1);
+    peer_write(&t, 0x27, 0x01);
+    peer_sample(&t, 0, 0, 0, 0);
+    peer_sample(&t, 2047, 5, 0, 0);
     check(gives(&t, 0x09, "000000"), "one over point of two");
-    twin_sample(&t, -2048, 5, -5, 0);
+    peer_sample(&t, -2048, 5, -5, 0);
     check(gives(&t, 0x09, "04000C"), "set at the second, z marked, negative");
-    twin_sample(&t, 2047, 10, -5, 0);
+    peer_sample(&t, 2047, 10, -5, 0);
     check(gives(&t, 0x09, "04000C"), "not set again");
-    twin_sample(&t, -2048, 10, -5, 0);
+    peer_sample(&t, -2048, 10, -5, 0);
     check(gives(&t, 0x09, "04"), "one calm point of two; x is not enabled");
-    twin_sample(&t, -2048, 10, -5, 0);
+    peer_sample(&t, -2048, 10, -5, 0);
     check(gives(&t, 0x09, "000008"), "cleared at the second, sign stays");
-    twin_sample(&t, 0, 20, 5, 0);
-    twin_sample(&t, 0, 30, 15, 0);
+    peer_sample(&t, 0, 20, 5, 0);
+    peer_sample(&t, 0, 30, 15, 0);
     check(gives(&t, 0x09, "040002"), "y before z, positive");
-    check(twin_write(&t, 0x16, 0x16) == 3 && gives(&t, 0x09, "04"), "refused 16 clears nothing");
-    check(twin_write(&t, 0x21, 0x87) == 0 && gives(&t, 0x09, "000000"), "0x21 clears");
-    twin_sample(&t, 0, 20, 15, 0);
-    twin_sample(&t, 0, 10, 15, 0);
+    check(peer_write(&t, 0x16, 0x16) == 3 && gives(&t, 0x09, "04"), "refused 16 clears nothing");
+    check(peer_write(&t, 0x21, 0x87) == 0 && gives(&t, 0x09, "000000"), "0x21 clears");
+    peer_sample(&t, 0, 20, 15, 0);
+    peer_sample(&t, 0, 10, 15, 0);
     for (int i = 0; i < 4; i++)
-        twin_sample(&t, 0, 10, 15, 0);
+        peer_sample(&t, 0, 10, 15, 0);
     check(gives(&t, 0x09, "04000A"), "latched stays");
-    check(twin_write(&t, 0x28, 0) == 0 && gives(&t, 0x09, "000008"), "0x28 clears all but sign");
+    check(peer_write(&t, 0x28, 0) == 0 && gives(&t, 0x09, "000008"), "0x28 clears all but sign");
 }
 
 static void previous_sample(void)
 {
-    struct twin t;
+    struct peer t;
 
-    twin_power_up(&t);
+    peer_power_up(&t);
     sample_x(&t, -2048);
-    check(twin_write(&t, 0x28, 0xFF) == 0 && twin_write(&t, 0x16, 0x01) == 0, "setup");
+    check(peer_write(&t, 0x28, 0xFF) == 0 && peer_write(&t, 0x16, 0x01) == 0, "setup");
     sample_x(&t, 2047);
     check(gives(&t, 0x09, "040001"), "the sample before enabling is remembered");
-    twin_write(&t, 0x0F, 0x03);
+    peer_write(&t, 0x0F, 0x03);
     check(gives(&t, 0x09, "000000"), "0x0F clears");
     sample_x(&t, -2048);
     check(gives(&t, 0x09, "000000"), "0x0F forgets the previous sample");
@@ -355,69 +355,69 @@ static void previous_sample(void)
 
 static void soft_reset(void)
 {
-    struct twin t = fresh(0x3B, 0xAB), wanted;
+    struct peer t = fresh(0x3B, 0xAB), wanted;
 
-    twin_write(&t, 0x3C, 0xCD);
+    peer_write(&t, 0x3C, 0xCD);
     wanted = t;
-    twin_write(&t, 0x16, 0x01);
-    twin_write(&t, 0x28, 0x00);
-    twin_sample(&t, 1, 2, 3, 4);
-    twin_sample(&t, 0, 2, 3, 4);
+    peer_write(&t, 0x16, 0x01);
+    peer_write(&t, 0x28, 0x00);
+    peer_sample(&t, 1, 2, 3, 4);
+    peer_sample(&t, 0, 2, 3, 4);
     check(reads(&t, 0x02, 1) == 0, "read that locks");
-    check(twin_write(&t, 0x14, 0xB5) == 0 && gives(&t, 0x0E, "81"), "B5 is ignored");
-    check(twin_write(&t, 0x14, 0xB6) == 0, "B6 is 0");
+    check(peer_write(&t, 0x14, 0xB5) == 0 && gives(&t, 0x0E, "81"), "B5 is ignored");
+    check(peer_write(&t, 0x14, 0xB6) == 0, "B6 is 0");
     check(memcmp(&t, &wanted, sizeof t) == 0, "all as at power-up but 0x3B and 0x3C");
 }
 
 static void data_and_full(void)
 {
-    struct twin t;
+    struct peer t;
 
-    twin_power_up(&t);
+    peer_power_up(&t);
     sample_x(&t, 0);
     check(gives(&t, 0x0A, "00"), "no status without its enable bit");
-    twin_write(&t, 0x17, 0x30);
+    peer_write(&t, 0x17, 0x30);
     check(gives(&t, 0x0A, "A0"), "data and full show at once");
-    check(twin_cycle_start(&t) == 0 && gives(&t, 0x0A, "20"), "cycle start ends data");
+    check(peer_cycle_start(&t) == 0 && gives(&t, 0x0A, "20"), "cycle start ends data");
     check(sample_x(&t, 2048) == 4 && gives(&t, 0x0A, "20"), "a refused sample is no data");
     check(sample_x(&t, 1) == 0 && gives(&t, 0x0A, "A0"), "an accepted one is");
 }
 
 static void pins(void)
 {
-    struct twin t;
+    struct peer t;
 
-    twin_power_up(&t);
-    check(pins_are(&t, LOW, LOW), "fresh pins are low");
-    twin_write(&t, 0x20, 0x00);
-    check(pins_are(&t, HIGH, HIGH), "inactive at active level 0 is high");
-    twin_write(&t, 0x20, 0x0E);
-    check(pins_are(&t, RELEASED, RELEASED), "inactive in open-drive is released");
-    twin_write(&t, 0x17, 0x30);
+    peer_power_up(&t);
+    check(pins_are(&t, PEER_LOW, PEER_LOW), "fresh pins are low");
+    peer_write(&t, 0x20, 0x00);
+    check(pins_are(&t, PEER_HIGH, PEER_HIGH), "inactive at active level 0 is high");
+    peer_write(&t, 0x20, 0x0E);
+    check(pins_are(&t, PEER_RELEASED, PEER_RELEASED), "inactive in open-drive is released");
+    peer_write(&t, 0x17, 0x30);
     sample_x(&t, 0);
-    check(pins_are(&t, RELEASED, RELEASED), "unmapped");
-    twin_write(&t, 0x1A, 0x81);
-    check(pins_are(&t, LOW, HIGH), "data on both, open-drive, active levels 0 and 1");
-    twin_cycle_start(&t);
-    check(pins_are(&t, RELEASED, RELEASED), "no data after the cycle start");
-    twin_write(&t, 0x1A, 0x04);
-    check(pins_are(&t, LOW, RELEASED), "full on INT1");
-    twin_write(&t, 0x1A, 0x20);
-    check(pins_are(&t, RELEASED, HIGH), "full on INT2");
-    twin_write(&t, 0x17, 0x40);
-    twin_write(&t, 0x30, 0x01);
-    twin_write(&t, 0x1A, 0x02);
-    check(pins_are(&t, LOW, RELEASED), "watermark on INT1");
-    twin_write(&t, 0x1A, 0x40);
-    check(pins_are(&t, RELEASED, HIGH), "watermark on INT2");
-    twin_write(&t, 0x1A, 0x00);
-    twin_write(&t, 0x16, 0x01);
+    check(pins_are(&t, PEER_RELEASED, PEER_RELEASED), "unmapped");
+    peer_write(&t, 0x1A, 0x81);
+    check(pins_are(&t, PEER_LOW, PEER_HIGH), "data on both, open-drive, active levels 0 and 1");
+    peer_cycle_start(&t);
+    check(pins_are(&t, PEER_RELEASED, PEER_RELEASED), "no data after the cycle start");
+    peer_write(&t, 0x1A, 0x04);
+    check(pins_are(&t, PEER_LOW, PEER_RELEASED), "full on INT1");
+    peer_write(&t, 0x1A, 0x20);
+    check(pins_are(&t, PEER_RELEASED, PEER_HIGH), "full on INT2");
+    peer_write(&t, 0x17, 0x40);
+    peer_write(&t, 0x30, 0x01);
+    peer_write(&t, 0x1A, 0x02);
+    check(pins_are(&t, PEER_LOW, PEER_RELEASED), "watermark on INT1");
+    peer_write(&t, 0x1A, 0x40);
+    check(pins_are(&t, PEER_RELEASED, PEER_HIGH), "watermark on INT2");
+    peer_write(&t, 0x1A, 0x00);
+    peer_write(&t, 0x16, 0x01);
     sample_x(&t, 100);
-    twin_write(&t, 0x19, 0x04);
-    check(pins_are(&t, LOW, RELEASED), "any-motion on INT1");
-    twin_write(&t, 0x19, 0xFB);
-    twin_write(&t, 0x1B, 0x04);
-    check(pins_are(&t, RELEASED, HIGH), "any-motion on INT2");
+    peer_write(&t, 0x19, 0x04);
+    check(pins_are(&t, PEER_LOW, PEER_RELEASED), "any-motion on INT1");
+    peer_write(&t, 0x19, 0xFB);
+    peer_write(&t, 0x1B, 0x04);
+    check(pins_are(&t, PEER_RELEASED, PEER_HIGH), "any-motion on INT2");
 }
 
 /* ---- replay ---- */

@@ -1,68 +1,181 @@
-/* The C entry's answers, and that it writes nothing outside the record and the buffer. tests/entry builds and runs it. */
+/* What include/twin.h promises, through the library, as C and as C++. tests/entry builds and runs it. It prints the count of checks and
+ * of those that failed. */
 #define _DEFAULT_SOURCE
+#include <limits.h>
 #include <stdio.h>
 #include <string.h>
 #include <sys/mman.h>
 #include "twin.h"
 
-enum { PAGE = 4096, FILL = 0xA5 };
-static int failed;
-#define HOLDS(fact) do { if (!(fact)) { failed++; printf("tests/entry.c:%d: %s\n", __LINE__, #fact); } } while (0)
+enum { PAGE = 4096, FILL = 0xA5, OTHER_FILL = 0x5A };
+static long checks, failed;
+#define HOLDS(fact) do { checks++; if (!(fact)) { failed++; fprintf(stderr, "tests/entry.c:%d: %s\n", __LINE__, #fact); } } while (0)
 
-static bool same_channel(const struct twin_channel *a, const struct twin_channel *b) {
-    return a->code == b->code && a->fresh == b->fresh && a->locked == b->locked && a->held == b->held;
+static bool all(const void *bytes, size_t count, int value) {
+    const unsigned char *at = (const unsigned char *)bytes;
+    for (size_t i = 0; i < count; i++)
+        if (at[i] != value) return false;
+    return true;
 }
 
-/* whether two records are equal, padding aside */
-static bool same(const struct twin *a, const struct twin *b) {
-    return memcmp(a->regs, b->regs, sizeof a->regs) == 0 && same_channel(&a->channels.x, &b->channels.x)
-        && same_channel(&a->channels.y, &b->channels.y) && same_channel(&a->channels.z, &b->channels.z)
-        && a->temperature == b->temperature && a->came == b->came && memcmp(a->frames, b->frames, sizeof a->frames) == 0
-        && a->fifo.count == b->fifo.count && a->fifo.overrun == b->fifo.overrun && a->detectors.previous.x == b->detectors.previous.x
-        && a->detectors.previous.y == b->detectors.previous.y && a->detectors.previous.z == b->detectors.previous.z
-        && a->detectors.previous.known == b->detectors.previous.known
-        && memcmp(&a->detectors.motion, &b->detectors.motion, sizeof a->detectors.motion) == 0;
+/* whether two chips in turn show the same: registers, frames, pins, and what some motion does to them; works on copies */
+static bool same(const struct twin *one, const struct twin *other) {
+    struct twin a = *one, b = *other;
+    for (int turn = 0; turn < 6; turn++) {
+        uint8_t of_a[192], of_b[192];
+        if (twin_pins(&a) != twin_pins(&b)) return false;
+        if (twin_read(&a, 0x00, of_a, 63) != TWIN_DONE || twin_read(&b, 0x00, of_b, 63) != TWIN_DONE || memcmp(of_a, of_b, 63) != 0) return false;
+        if (turn == 0 && (twin_read(&a, 0x3F, of_a, 192) != TWIN_DONE || twin_read(&b, 0x3F, of_b, 192) != TWIN_DONE || memcmp(of_a, of_b, 192) != 0))
+            return false;
+        twin_sample(&a, 100 * turn, -turn, 0, 0);
+        twin_sample(&b, 100 * turn, -turn, 0, 0);
+    }
+    return true;
 }
 
 /* a kind that does not exist gets 8, and neither the record nor the buffer changes */
 static void unknown_kinds(struct twin *twin) {
-    struct twin before;
-    uint8_t buffer[16], was[16];
+    struct twin before = *twin;
+    uint8_t buffer[16];
     memset(buffer, FILL, sizeof buffer);
-    memcpy(was, buffer, sizeof was);
-    memcpy(&before, twin, sizeof before);
     for (int kind = 0; kind < 256; kind++) {
         if (kind >= TWIN_WRITE && kind <= TWIN_CYCLE) continue;
         HOLDS(twin_event(twin, (uint8_t)kind, 0x3F, 0xB6, 1, 2, 3, buffer, sizeof buffer) == TWIN_NO_KIND);
-        HOLDS(same(&before, twin) && memcmp(was, buffer, sizeof was) == 0);
+        HOLDS(all(buffer, sizeof buffer, FILL));
     }
+    HOLDS(same(&before, twin));
 }
 
-/* each refusal, also of what only C can see, with the record as it was */
-static void refusals(struct twin *twin) {
-    struct twin before;
-    uint8_t buffer[192];
-    memcpy(&before, twin, sizeof before);
+/* each refusal of an event, with the record and the buffer as they were */
+static void refused_events(struct twin *twin) {
+    struct twin before = *twin;
+    uint8_t buffer[193];
+    memset(buffer, FILL, sizeof buffer);
     HOLDS(twin_write(twin, 0x40, 0) == TWIN_NO_ADDRESS);
+    HOLDS(twin_read(twin, 0x40, buffer, 0) == TWIN_NO_ADDRESS);
     HOLDS(twin_write(twin, 0x0F, 4) == TWIN_RESERVED_CODE);
     HOLDS(twin_write(twin, 0x21, 1) == TWIN_NOT_MODELLED);
     HOLDS(twin_sample(twin, 2048, 0, 0, 0) == TWIN_OUT_OF_RANGE);
     HOLDS(twin_sample(twin, 0, -2049, 0, 0) == TWIN_OUT_OF_RANGE);
     HOLDS(twin_sample(twin, 0, 0, 65536, 0) == TWIN_OUT_OF_RANGE);
+    HOLDS(twin_sample(twin, INT_MAX, 0, 0, 0) == TWIN_OUT_OF_RANGE);
+    HOLDS(twin_sample(twin, 0, INT_MIN, 0, 0) == TWIN_OUT_OF_RANGE);
     HOLDS(twin_read(twin, 0x3F, buffer, 0) == TWIN_BAD_LENGTH);
-    HOLDS(twin_read(twin, 0x00, NULL, 1) == TWIN_BAD_LENGTH);
+    HOLDS(twin_read(twin, 0x3F, buffer, 193) == TWIN_BAD_LENGTH);
+    HOLDS(twin_read(twin, 0x00, buffer, SIZE_MAX) == TWIN_BAD_LENGTH);
     HOLDS(twin_read(twin, 0x3E, buffer, 2) == TWIN_PAST_END);
+    HOLDS(same(&before, twin) && all(buffer, sizeof buffer, FILL));
+}
+
+/* every function on a record that is no chip; nothing changes. NULL is also a record */
+static void refused_record(struct twin *twin) {
+    struct twin before;
+    uint8_t buffer[6];
+    memset(buffer, FILL, sizeof buffer);
+    if (twin != NULL) before = *twin;
+    HOLDS(twin_write(twin, 0x0F, 0x03) == TWIN_NOT_POWERED && twin_write(twin, 0x40, 0) == TWIN_NOT_POWERED);
+    HOLDS(twin_read(twin, 0x00, buffer, 1) == TWIN_NOT_POWERED && twin_read(twin, 0x3F, NULL, 6) == TWIN_NOT_POWERED);
+    HOLDS(twin_sample(twin, 1, 2, 3, 4) == TWIN_NOT_POWERED && twin_sample(twin, INT_MAX, 0, 0, 0) == TWIN_NOT_POWERED);
+    HOLDS(twin_cycle(twin) == TWIN_NOT_POWERED);
+    for (int kind = 0; kind < 256; kind++)
+        HOLDS(twin_event(twin, (uint8_t)kind, 0, 0, 0, 0, 0, buffer, sizeof buffer) == TWIN_NOT_POWERED);
+    HOLDS(twin_pins(twin) == TWIN_NOT_POWERED && twin_int1(twin) == TWIN_NOT_POWERED && twin_int2(twin) == TWIN_NOT_POWERED);
+    HOLDS(all(buffer, sizeof buffer, FILL));
+    HOLDS(twin == NULL || memcmp(&before, twin, sizeof before) == 0);
+}
+
+/* zeros are no chip, nor is a record whose first byte is another than the chip's number */
+static void not_powered_up(void) {
+    struct twin twin;
+    HOLDS(twin_power_up(NULL) == TWIN_NOT_POWERED);
+    refused_record(NULL);
+    memset(&twin, 0, sizeof twin);
+    refused_record(&twin);
+    HOLDS(twin_power_up(&twin) == TWIN_DONE && twin_write(&twin, 0x0F, 0x05) == TWIN_DONE);
+    for (int first = 0; first < 256; first++) {
+        if (first == TWIN_CHIP) continue;
+        *(unsigned char *)&twin = (unsigned char)first;
+        refused_record(&twin);
+    }
+    *(unsigned char *)&twin = TWIN_CHIP;
+    HOLDS(twin_write(&twin, 0x0F, 0x03) == TWIN_DONE);
+}
+
+/* a buffer of each place and some lengths around the record: refused exactly where the two overlap, and then nothing changes */
+static void overlaps(void) {
+    enum { MARGIN = 200, RECORD = 200, AREA = MARGIN + TWIN_ROOM + MARGIN };
+    static const size_t lengths[] = {1, 2, 6, 191, 192};
+    static uint64_t area[AREA / 8];
+    uint8_t *base = (uint8_t *)area;
+    struct twin *twin = (struct twin *)(void *)(base + RECORD);
+    memset(area, FILL, sizeof area);
+    HOLDS(twin_power_up(twin) == TWIN_DONE && twin_write(twin, 0x3E, 0x40) == TWIN_DONE);
+    for (size_t n = 0; n < sizeof lengths / sizeof *lengths; n++)
+        for (size_t at = 0; at + lengths[n] <= AREA; at++) {
+            static uint64_t before[AREA / 8];
+            bool overlap = at < RECORD + TWIN_ROOM && at + lengths[n] > RECORD;
+            memcpy(before, area, sizeof before);
+            HOLDS(twin_read(twin, 0x3F, base + at, lengths[n]) == (overlap ? TWIN_BAD_BUFFER : TWIN_DONE));
+            HOLDS(twin_event(twin, TWIN_CYCLE, 0, 0, 0, 0, 0, base + at, lengths[n]) == (overlap ? TWIN_BAD_BUFFER : TWIN_DONE));
+            if (overlap) HOLDS(memcmp(before, area, sizeof before) == 0);
+            else HOLDS(all(base + at, lengths[n], 0));
+        }
+    HOLDS(twin_read(twin, 0x3F, base + RECORD, 0) == TWIN_BAD_LENGTH && twin_read(twin, 0x3F, base, 193) == TWIN_BAD_LENGTH);
+    HOLDS(twin_read(twin, 0x3F, base + RECORD + 8, 193) == TWIN_BAD_LENGTH && twin_read(twin, 0x3F, base, SIZE_MAX) == TWIN_BAD_LENGTH);
+}
+
+/* NULL is a buffer of no bytes and of no more */
+static void no_buffer(struct twin *twin) {
+    struct twin before = *twin;
+    for (size_t length = 1; length < 300; length++) HOLDS(twin_read(twin, 0x3F, NULL, length) == TWIN_BAD_BUFFER);
+    HOLDS(twin_read(twin, 0x40, NULL, SIZE_MAX) == TWIN_BAD_BUFFER && twin_event(twin, 0, 0, 0, 0, 0, 0, NULL, 1) == TWIN_BAD_BUFFER);
+    HOLDS(memcmp(&before, twin, sizeof before) == 0);
+    HOLDS(twin_read(twin, 0x3F, NULL, 0) == TWIN_BAD_LENGTH && twin_read(twin, 0x40, NULL, 0) == TWIN_NO_ADDRESS);
+    HOLDS(twin_event(twin, 9, 0, 0, 0, 0, 0, NULL, 0) == TWIN_NO_KIND);
     HOLDS(same(&before, twin));
 }
 
-/* the printed case of 01; the byte after a readout is not touched */
-static void readout(struct twin *twin) {
-    uint8_t buffer[7];
-    memset(buffer, FILL, sizeof buffer);
+/* power-up leaves no byte as it was, and does not begin on a record that is not aligned */
+static void power_up(void) {
+    struct twin one, other;
+    uint64_t place[TWIN_ROOM / 8 + 1];
+    uint8_t (*up)(struct twin *) = twin_power_up;
+    memset(&one, FILL, sizeof one);
+    memset(&other, OTHER_FILL, sizeof other);
+    HOLDS(twin_power_up(&one) == TWIN_DONE && up(&other) == TWIN_DONE);
+    for (size_t i = 0; i < sizeof one; i++) HOLDS(((uint8_t *)&one)[i] != FILL || ((uint8_t *)&other)[i] != OTHER_FILL);
+    HOLDS(same(&one, &other));
+    for (size_t shift = 1; shift < 8; shift++) {
+        struct twin *shifted = (struct twin *)(void *)((uint8_t *)place + shift);
+        memset(place, TWIN_CHIP, sizeof place);
+        HOLDS(twin_power_up(shifted) == TWIN_MISFIT);
+        HOLDS(all(shifted, sizeof *shifted, 0) && all(place, shift, TWIN_CHIP) && all((uint8_t *)place + shift + TWIN_ROOM, 8 - shift, TWIN_CHIP));
+        HOLDS(twin_cycle(shifted) == TWIN_NOT_POWERED);
+    }
+}
+
+/* a copy is a second chip */
+static void copies(void) {
+    struct twin one, other;
+    uint8_t byte;
+    twin_power_up(&one);
+    HOLDS(twin_write(&one, 0x0F, 0x05) == TWIN_DONE);
+    other = one;
+    HOLDS(same(&one, &other));
+    HOLDS(twin_write(&other, 0x0F, 0x0C) == TWIN_DONE);
+    HOLDS(twin_read(&one, 0x0F, &byte, 1) == TWIN_DONE && byte == 0x05);
+    HOLDS(twin_read(&other, 0x0F, &byte, 1) == TWIN_DONE && byte == 0x0C);
+}
+
+/* the printed case of 01; the buffer ends with its page, and the bytes before it stay */
+static void readout(struct twin *twin, uint8_t *end) {
+    uint8_t *buffer = end - 6;
+    memset(end - 16, FILL, 16);
     HOLDS(twin_write(twin, 0x3E, 0x40) == TWIN_DONE);
     HOLDS(twin_sample(twin, 16, -16, 1024, 5) == TWIN_DONE);
     HOLDS(twin_read(twin, 0x3F, buffer, 6) == TWIN_DONE);
-    HOLDS(memcmp(buffer, "\x01\x01\x01\xFF\x01\x40", 6) == 0 && buffer[6] == FILL);
+    HOLDS(memcmp(buffer, "\x01\x01\x01\xFF\x01\x40", 6) == 0 && all(end - 16, 10, FILL));
+    HOLDS(twin_read(twin, 0x3F, end - 192, 192) == TWIN_DONE && all(end - 192, 192, 0));
 }
 
 /* the data interrupt on each pin, push-pull and open-drive */
@@ -74,24 +187,61 @@ static void pins(struct twin *twin) {
     HOLDS(twin_write(twin, 0x20, 0x0D) == TWIN_DONE);
     HOLDS(twin_int1(twin) == TWIN_HIGH && twin_int2(twin) == TWIN_RELEASED);
     HOLDS(twin_write(twin, 0x1A, 0x80) == TWIN_DONE);
-    HOLDS(twin_int1(twin) == TWIN_LOW && twin_int2(twin) == TWIN_HIGH);
+    HOLDS(twin_int1(twin) == TWIN_LOW && twin_int2(twin) == TWIN_HIGH && twin_pins(twin) == 4);
+    HOLDS(twin_cycle(twin) == TWIN_DONE && twin_int2(twin) == TWIN_RELEASED);
 }
 
-int main(void) {
-    HOLDS(twin_size() == TWIN_SIZE && twin_alignment() == TWIN_ALIGN);
-    HOLDS(sizeof ((struct twin *)0)->detectors.motion == 5); /* its five bytes, no padding */
-    /* the record ends with its page, and the next page cannot be touched */
-    uint8_t *page = mmap(NULL, 2 * PAGE, PROT_READ | PROT_WRITE, MAP_PRIVATE | MAP_ANONYMOUS, -1, 0);
-    if (page == MAP_FAILED || mprotect(page + PAGE, PAGE, PROT_NONE) != 0) return 2;
+/* each answer has words of its own, and no other number has any */
+static void names(void) {
+    static const uint8_t answers[] = {0, 1, 2, 3, 4, 5, 6, 8, 253, 254, 255};
+    for (int number = 0; number < 256; number++) {
+        bool is_answer = memchr(answers, number, sizeof answers) != NULL;
+        HOLDS((strcmp(twin_answer_name((uint8_t)number), "not an answer") == 0) == !is_answer);
+        for (int other = 0; is_answer && other < number; other++)
+            HOLDS(strcmp(twin_answer_name((uint8_t)number), twin_answer_name((uint8_t)other)) != 0);
+    }
+}
+
+static void sizes_and_version(void) {
+    char version[32];
+    snprintf(version, sizeof version, "%d.%d.%d", TWIN_VERSION_MAJOR, TWIN_VERSION_MINOR, TWIN_VERSION_PATCH);
+    HOLDS(strcmp(version, TWIN_VERSION) == 0 && strcmp(twin_version(), TWIN_VERSION) == 0);
+    HOLDS(sizeof(struct twin) == TWIN_ROOM && TWIN_ROOM == 512);
+    HOLDS(twin_size() <= TWIN_ROOM && twin_alignment() <= 8 && TWIN_ROOM % twin_alignment() == 0);
+}
+
+/* a page, with a next one that cannot be touched */
+static uint8_t *guarded_page(void) {
+    uint8_t *page = (uint8_t *)mmap(NULL, 2 * PAGE, PROT_READ | PROT_WRITE, MAP_PRIVATE | MAP_ANONYMOUS, -1, 0);
+    if (page == (uint8_t *)MAP_FAILED || mprotect(page + PAGE, PAGE, PROT_NONE) != 0) return NULL;
     memset(page, FILL, PAGE);
-    struct twin *twin = (struct twin *)(page + PAGE - TWIN_SIZE);
-    memset(twin, 0, TWIN_SIZE);
+    return page;
+}
+
+/* events on a record that ends with its page, into a buffer that does; the record's rest and what lies before stay */
+static void at_the_edge(uint8_t *page, uint8_t *buffers) {
+    struct twin *twin = (struct twin *)(void *)(page + PAGE - TWIN_ROOM);
     twin_power_up(twin);
     pins(twin);
     twin_power_up(twin);
-    readout(twin);
-    refusals(twin);
+    readout(twin, buffers + PAGE);
+    refused_events(twin);
     unknown_kinds(twin);
-    for (int i = 0; i < PAGE - TWIN_SIZE; i++) HOLDS(page[i] == FILL);
+    no_buffer(twin);
+    HOLDS(all((uint8_t *)twin + twin_size(), TWIN_ROOM - twin_size(), 0));
+    HOLDS(all(page, PAGE - TWIN_ROOM, FILL) && all(buffers, PAGE - 192, FILL));
+}
+
+int main(void) {
+    uint8_t *page = guarded_page(), *buffers = guarded_page();
+    if (page == NULL || buffers == NULL) return 2;
+    sizes_and_version();
+    names();
+    not_powered_up();
+    power_up();
+    copies();
+    overlaps();
+    at_the_edge(page, buffers);
+    printf("%ld %ld\n", checks, failed);
     return failed != 0;
 }

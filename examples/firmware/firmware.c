@@ -6,24 +6,24 @@ enum { CHIP_ID = 0x00, FIFO_STATUS = 0x0E, RANGE = 0x0F, BANDWIDTH = 0x10, SOFT_
        WATERMARK = 0x30, FIFO_CONFIG = 0x3E, FIFO_DATA = 0x3F };
 enum { FRAME = 6 };
 
-static struct twin chip; /* the bus's other end: static storage is zeroed */
+static struct twin chip; /* the bus's other end */
 
 /* The bus: a register pair as an I2C driver has it. A refusal is the slave's NACK. */
 static int bus_write(uint8_t address, uint8_t byte) {
     uint8_t answer = twin_write(&chip, address, byte);
-    if (answer != TWIN_DONE) printf("  write %02X to %02X refused: %u\n", byte, address, answer);
+    if (answer != TWIN_DONE) printf("  write %02X to %02X refused: %u, %s\n", byte, address, answer, twin_answer_name(answer));
     return answer == TWIN_DONE;
 }
 
 static int bus_read(uint8_t address, uint8_t *buffer, size_t length) {
     uint8_t answer = twin_read(&chip, address, buffer, length);
-    if (answer != TWIN_DONE) printf("  read of %zu at %02X refused: %u\n", length, address, answer);
+    if (answer != TWIN_DONE) printf("  read of %zu at %02X refused: %u, %s\n", length, address, answer, twin_answer_name(answer));
     return answer == TWIN_DONE;
 }
 
 static int start(void) {
     uint8_t id;
-    if (!bus_read(CHIP_ID, &id, 1) || id != 0xFA) return 0;
+    if (!bus_read(CHIP_ID, &id, 1) || id != TWIN_CHIP) return 0;
     printf("chip %02X\n", id);
     return bus_write(SOFT_RESET, 0xB6) && bus_write(RANGE, 0x08) && bus_write(BANDWIDTH, 0x0C) && bus_write(INT_MAP, 0x02)
         && bus_write(INT_ENABLE, 0x40) && bus_write(WATERMARK, 0x04) && bus_write(FIFO_CONFIG, 0x40);
@@ -44,14 +44,16 @@ static void drain(void) {
 static void samples(int from, int n) {
     for (int i = from; i < from + n; i++) {
         uint8_t answer = twin_sample(&chip, i, -i, 1000, 0x17);
-        if (answer != TWIN_DONE) printf("  sample %d refused: %u\n", i, answer);
+        if (answer != TWIN_DONE) printf("  sample %d refused: %u, %s\n", i, answer, twin_answer_name(answer));
         twin_cycle(&chip);
     }
 }
 
 int main(void) {
-    if (twin_size() != sizeof chip || twin_alignment() != _Alignof(struct twin)) return printf("header and library do not fit\n"), 1;
-    twin_power_up(&chip);
+    uint8_t answer, two[2];
+    bus_write(RANGE, 0x08); /* too early */
+    answer = twin_power_up(&chip);
+    if (answer != TWIN_DONE) return printf("no power-up: %s\n", twin_answer_name(answer)), 1;
     if (!start()) return printf("the start-up failed\n"), 1;
     bus_write(RANGE, 0x07); /* a code that the sheet does not define */
     samples(1, 4);
@@ -60,7 +62,6 @@ int main(void) {
     samples(5, 40); /* the firmware is late */
     drain();
     bus_read(FIFO_STATUS, NULL, 1);
-    bus_read(0x3E, (uint8_t[2]){0}, 2);
-    printf("unknown kind: %u\n", twin_event(&chip, 9, 0, 0, 0, 0, 0, (uint8_t[1]){0}, 1));
+    bus_read(FIFO_CONFIG, two, 2);
     return 0;
 }

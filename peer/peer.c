@@ -1,4 +1,4 @@
-#include "twin.h"
+#include "peer.h"
 
 #include <stdlib.h>
 #include <string.h>
@@ -41,62 +41,62 @@ enum { MODE_BITS = 0xC0, BYPASS = 0x00, FIFO = 0x40 };
 
 static const struct {
     uint8_t reset, mask;
-} row[REGISTERS] = {
-    {CHIP_NUMBER, 0}, {0xFF, 0x00}, {0x00, 0x00}, {0x00, 0x00}, /* 00 */
-    {0x00, 0x00},     {0x00, 0x00}, {0x00, 0x00}, {0x00, 0x00}, /* 04 */
-    {0x00, 0x00},     {0x00, 0x00}, {0x00, 0x00}, {0x00, 0x00}, /* 08 */
-    {0x00, 0x00},     {0xFF, 0x00}, {0x00, 0x00}, {0x03, 0x0F}, /* 0C */
-    {0x0F, 0x1F},     {0x00, 0xFE}, {0x00, 0x60}, {0x00, 0xC0}, /* 10 */
-    {0x00, 0x00},     {0xFF, 0x00}, {0x00, 0xF7}, {0x00, 0x7F}, /* 14 */
-    {0x00, 0x0F},     {0x00, 0xFF}, {0x00, 0xE7}, {0x00, 0xFF}, /* 18 */
-    {0xFF, 0x00},     {0xFF, 0x00}, {0x00, 0x3F}, {0xFF, 0x00}, /* 1C */
-    {0x05, 0x0F},     {0x00, 0x0F}, {0x09, 0xFF}, {0x30, 0xFF}, /* 20 */
-    {0x81, 0xC7},     {0x0F, 0xFF}, {0xC0, 0xFF}, {0x00, 0xFF}, /* 24 */
-    {0x14, 0xFF},     {0x14, 0xFF}, {0x04, 0xC7}, {0x0A, 0xDF}, /* 28 */
-    {0x18, 0x7F},     {0x48, 0x7F}, {0x08, 0x3F}, {0x11, 0x37}, /* 2C */
-    {0x00, 0x3F},     {0xFF, 0x00}, {0x00, 0x07}, {0xF4, 0x00}, /* 30 */
-    {0x00, 0x07},     {0xFF, 0x00}, {0x10, 0x00}, {0x00, 0x7F}, /* 34 */
-    {0x00, 0xFF},     {0x00, 0xFF}, {0x00, 0xFF}, {0x00, 0xFF}, /* 38 */
-    {0x00, 0xFF},     {0xFF, 0x00}, {0x00, 0xC3}, {0x00, 0x00}  /* 3C */
+} row[PEER_REGISTERS] = {
+    {PEER_CHIP_NUMBER, 0}, {0xFF, 0x00}, {0x00, 0x00}, {0x00, 0x00}, /* 00 */
+    {0x00, 0x00},          {0x00, 0x00}, {0x00, 0x00}, {0x00, 0x00}, /* 04 */
+    {0x00, 0x00},          {0x00, 0x00}, {0x00, 0x00}, {0x00, 0x00}, /* 08 */
+    {0x00, 0x00},          {0xFF, 0x00}, {0x00, 0x00}, {0x03, 0x0F}, /* 0C */
+    {0x0F, 0x1F},          {0x00, 0xFE}, {0x00, 0x60}, {0x00, 0xC0}, /* 10 */
+    {0x00, 0x00},          {0xFF, 0x00}, {0x00, 0xF7}, {0x00, 0x7F}, /* 14 */
+    {0x00, 0x0F},          {0x00, 0xFF}, {0x00, 0xE7}, {0x00, 0xFF}, /* 18 */
+    {0xFF, 0x00},          {0xFF, 0x00}, {0x00, 0x3F}, {0xFF, 0x00}, /* 1C */
+    {0x05, 0x0F},          {0x00, 0x0F}, {0x09, 0xFF}, {0x30, 0xFF}, /* 20 */
+    {0x81, 0xC7},          {0x0F, 0xFF}, {0xC0, 0xFF}, {0x00, 0xFF}, /* 24 */
+    {0x14, 0xFF},          {0x14, 0xFF}, {0x04, 0xC7}, {0x0A, 0xDF}, /* 28 */
+    {0x18, 0x7F},          {0x48, 0x7F}, {0x08, 0x3F}, {0x11, 0x37}, /* 2C */
+    {0x00, 0x3F},          {0xFF, 0x00}, {0x00, 0x07}, {0xF4, 0x00}, /* 30 */
+    {0x00, 0x07},          {0xFF, 0x00}, {0x10, 0x00}, {0x00, 0x7F}, /* 34 */
+    {0x00, 0xFF},          {0x00, 0xFF}, {0x00, 0xFF}, {0x00, 0xFF}, /* 38 */
+    {0x00, 0xFF},          {0xFF, 0x00}, {0x00, 0xC3}, {0x00, 0x00}  /* 3C */
 };
 
 /* ---- power-up and soft reset ---- */
 
-void twin_power_up(struct twin *t)
+void peer_power_up(struct peer *t)
 {
     memset(t, 0, sizeof *t);
-    for (int address = 0; address < REGISTERS; address++)
+    for (int address = 0; address < PEER_REGISTERS; address++)
         t->reg[address] = row[address].reset;
 }
 
-static void soft_reset(struct twin *t)
+static void soft_reset(struct peer *t)
 {
     uint8_t kept_3b = t->reg[KEPT_3B], kept_3c = t->reg[KEPT_3C];
 
-    twin_power_up(t);
+    peer_power_up(t);
     t->reg[KEPT_3B] = kept_3b;
     t->reg[KEPT_3C] = kept_3c;
 }
 
 /* ---- FIFO ---- */
 
-static unsigned fifo_depth(const struct twin *t)
+static unsigned fifo_depth(const struct peer *t)
 {
-    return (t->reg[FIFO_MODE] & MODE_BITS) == BYPASS ? 1 : DEPTH;
+    return (t->reg[FIFO_MODE] & MODE_BITS) == BYPASS ? 1 : PEER_DEPTH;
 }
 
-static size_t frame_size(const struct twin *t)
+static size_t frame_size(const struct peer *t)
 {
-    return t->reg[FIFO_MODE] & 3 ? 2 : 2 * AXES;
+    return t->reg[FIFO_MODE] & 3 ? 2 : 2 * PEER_AXES;
 }
 
-static void drop_oldest(struct fifo *f)
+static void drop_oldest(struct peer_fifo *f)
 {
-    f->oldest = (uint8_t)((f->oldest + 1) % DEPTH);
+    f->oldest = (uint8_t)((f->oldest + 1) % PEER_DEPTH);
     f->count--;
 }
 
-static void empty_fifo(struct fifo *f)
+static void empty_fifo(struct peer_fifo *f)
 {
     f->oldest = 0;
     f->count = 0;
@@ -104,9 +104,9 @@ static void empty_fifo(struct fifo *f)
 }
 
 /* Makes a frame of the sample that the channels have just taken, with all new-data bits at 1. */
-static void put_frame(struct twin *t)
+static void put_frame(struct peer *t)
 {
-    struct fifo *f = &t->fifo;
+    struct peer_fifo *f = &t->fifo;
     unsigned select = t->reg[FIFO_MODE] & 3;
     const uint8_t *channel = &t->reg[select ? X_LSB + 2 * (select - 1) : X_LSB];
 
@@ -116,13 +116,13 @@ static void put_frame(struct twin *t)
             return;
         drop_oldest(f);
     }
-    memcpy(f->frame[(f->oldest + f->count) % DEPTH], channel, frame_size(t));
+    memcpy(f->frame[(f->oldest + f->count) % PEER_DEPTH], channel, frame_size(t));
     f->count++;
 }
 
-static void read_fifo(struct twin *t, uint8_t *buffer, size_t length)
+static void read_fifo(struct peer *t, uint8_t *buffer, size_t length)
 {
-    struct fifo *f = &t->fifo;
+    struct peer_fifo *f = &t->fifo;
     size_t size = frame_size(t);
 
     while (length > 0 && f->count > 0) {
@@ -138,7 +138,7 @@ static void read_fifo(struct twin *t, uint8_t *buffer, size_t length)
 
 /* ---- any-motion ---- */
 
-static void clear_motion(struct motion *m)
+static void clear_motion(struct peer_motion *m)
 {
     m->status = false;
     m->marks = 0;
@@ -146,7 +146,7 @@ static void clear_motion(struct motion *m)
     m->calm_run = 0;
 }
 
-static void over_point(struct motion *m, unsigned n, int axis, bool negative)
+static void over_point(struct peer_motion *m, unsigned n, int axis, bool negative)
 {
     m->calm_run = 0;
     if (m->over_run < n)
@@ -158,7 +158,7 @@ static void over_point(struct motion *m, unsigned n, int axis, bool negative)
     }
 }
 
-static void calm_point(struct motion *m, unsigned n, bool latched)
+static void calm_point(struct peer_motion *m, unsigned n, bool latched)
 {
     m->over_run = 0;
     if (m->calm_run < n)
@@ -169,13 +169,13 @@ static void calm_point(struct motion *m, unsigned n, bool latched)
     }
 }
 
-static void judge_point(struct twin *t, const int difference[AXES])
+static void judge_point(struct peer *t, const int difference[PEER_AXES])
 {
     unsigned enabled = t->reg[ENABLE_MOTION] & 7;
     unsigned n = (t->reg[MOTION_COUNT] & 3) + 1u;
     int threshold = 4 * t->reg[MOTION_THRESHOLD];
 
-    for (int axis = 0; axis < AXES; axis++)
+    for (int axis = 0; axis < PEER_AXES; axis++)
         if (enabled >> axis & 1 && abs(difference[axis]) > threshold) {
             over_point(&t->motion, n, axis, difference[axis] < 0);
             return;
@@ -183,13 +183,13 @@ static void judge_point(struct twin *t, const int difference[AXES])
     calm_point(&t->motion, n, (t->reg[LATCH] & 7) == 7);
 }
 
-static void any_motion(struct twin *t, const int sample[AXES])
+static void any_motion(struct peer *t, const int sample[PEER_AXES])
 {
-    struct motion *m = &t->motion;
+    struct peer_motion *m = &t->motion;
     bool first = !m->has_previous;
-    int difference[AXES];
+    int difference[PEER_AXES];
 
-    for (int axis = 0; axis < AXES; axis++) {
+    for (int axis = 0; axis < PEER_AXES; axis++) {
         difference[axis] = sample[axis] - m->previous[axis];
         m->previous[axis] = (int16_t)sample[axis];
     }
@@ -200,39 +200,39 @@ static void any_motion(struct twin *t, const int sample[AXES])
 
 /* ---- register write ---- */
 
-static enum answer refuse_range(uint8_t byte)
+static enum peer_answer refuse_range(uint8_t byte)
 {
     switch (byte & 0x0F) {
     case 0x3: /* 2 g */
     case 0x5: /* 4 g */
     case 0x8: /* 8 g */
     case 0xC: /* 16 g */
-        return DONE;
+        return PEER_DONE;
     default:
-        return RESERVED_CODE;
+        return PEER_RESERVED_CODE;
     }
 }
 
-static enum answer refuse_latch(uint8_t byte)
+static enum peer_answer refuse_latch(uint8_t byte)
 {
     unsigned code = byte & 7; /* bit 3 makes no difference */
 
-    return code == 0 || code == 7 ? DONE : NOT_MODELLED;
+    return code == 0 || code == 7 ? PEER_DONE : PEER_NOT_MODELLED;
 }
 
-static enum answer refuse_bits(uint8_t byte, uint8_t not_modelled)
+static enum peer_answer refuse_bits(uint8_t byte, uint8_t not_modelled)
 {
-    return byte & not_modelled ? NOT_MODELLED : DONE;
+    return byte & not_modelled ? PEER_NOT_MODELLED : PEER_DONE;
 }
 
-/* The number with which a write is refused, or DONE. It looks at the byte before the mask. */
-static enum answer refuse_write(uint8_t address, uint8_t byte)
+/* The number with which a write is refused, or PEER_DONE. It looks at the byte before the mask. */
+static enum peer_answer refuse_write(uint8_t address, uint8_t byte)
 {
     switch (address) {
     case RANGE:
         return refuse_range(byte);
     case FIFO_MODE:
-        return (byte & MODE_BITS) == MODE_BITS ? RESERVED_CODE : DONE;
+        return (byte & MODE_BITS) == MODE_BITS ? PEER_RESERVED_CODE : PEER_DONE;
     case LATCH:
         return refuse_latch(byte);
     case 0x11:
@@ -254,12 +254,12 @@ static enum answer refuse_write(uint8_t address, uint8_t byte)
     case 0x3A:
         return refuse_bits(byte, 0xFF);
     default:
-        return DONE;
+        return PEER_DONE;
     }
 }
 
 /* What an accepted write does beside storing its byte. */
-static void act_on_write(struct twin *t, uint8_t address, uint8_t byte)
+static void act_on_write(struct peer *t, uint8_t address, uint8_t byte)
 {
     switch (address) {
     case RANGE:
@@ -286,25 +286,25 @@ static void act_on_write(struct twin *t, uint8_t address, uint8_t byte)
     }
 }
 
-enum answer twin_write(struct twin *t, uint8_t address, uint8_t byte)
+enum peer_answer peer_write(struct peer *t, uint8_t address, uint8_t byte)
 {
-    enum answer refusal;
+    enum peer_answer refusal;
     uint8_t mask;
 
-    if (address >= REGISTERS)
-        return WRONG_ADDRESS;
+    if (address >= PEER_REGISTERS)
+        return PEER_WRONG_ADDRESS;
     refusal = refuse_write(address, byte);
-    if (refusal != DONE)
+    if (refusal != PEER_DONE)
         return refusal;
     mask = row[address].mask;
     t->reg[address] = (uint8_t)((t->reg[address] & ~mask) | (byte & mask));
     act_on_write(t, address, byte);
-    return DONE;
+    return PEER_DONE;
 }
 
 /* ---- burst read ---- */
 
-static uint8_t read_lsb(struct twin *t, uint8_t address)
+static uint8_t read_lsb(struct peer *t, uint8_t address)
 {
     unsigned axis = (address - X_LSB) / 2u;
     uint8_t byte = t->reg[address];
@@ -317,7 +317,7 @@ static uint8_t read_lsb(struct twin *t, uint8_t address)
     return byte;
 }
 
-static uint8_t read_msb(struct twin *t, uint8_t address)
+static uint8_t read_msb(struct peer *t, uint8_t address)
 {
     unsigned axis = (address - X_MSB) / 2u;
     uint8_t byte = t->locked[axis] ? t->lock[axis] : t->reg[address];
@@ -327,7 +327,7 @@ static uint8_t read_msb(struct twin *t, uint8_t address)
 }
 
 /* The byte of 0x0A. */
-static uint8_t status_data(const struct twin *t)
+static uint8_t status_data(const struct peer *t)
 {
     unsigned enabled = t->reg[ENABLE_DATA], level = t->reg[WATERMARK_LEVEL];
     unsigned status = 0;
@@ -341,7 +341,7 @@ static uint8_t status_data(const struct twin *t)
     return (uint8_t)status;
 }
 
-static uint8_t read_register(struct twin *t, uint8_t address)
+static uint8_t read_register(struct peer *t, uint8_t address)
 {
     switch (address) {
     case X_LSB:
@@ -365,21 +365,21 @@ static uint8_t read_register(struct twin *t, uint8_t address)
     }
 }
 
-enum answer twin_read(struct twin *t, uint8_t address, uint8_t *buffer, size_t length)
+enum peer_answer peer_read(struct peer *t, uint8_t address, uint8_t *buffer, size_t length)
 {
-    if (address >= REGISTERS)
-        return WRONG_ADDRESS;
-    if (length == 0 || length > LONGEST_READ)
-        return WRONG_READ_LENGTH;
+    if (address >= PEER_REGISTERS)
+        return PEER_WRONG_ADDRESS;
+    if (length == 0 || length > PEER_LONGEST_READ)
+        return PEER_WRONG_READ_LENGTH;
     if (address == FIFO_DATA) {
         read_fifo(t, buffer, length);
-        return DONE;
+        return PEER_DONE;
     }
     if (address + length > FIFO_DATA)
-        return READ_PASSES_3E;
+        return PEER_READ_PASSES_3E;
     for (size_t i = 0; i < length; i++)
         buffer[i] = read_register(t, (uint8_t)(address + i));
-    return DONE;
+    return PEER_DONE;
 }
 
 /* ---- sample and cycle start ---- */
@@ -389,13 +389,13 @@ static bool outside_12_bits(int value)
     return value < -2048 || value > 2047;
 }
 
-enum answer twin_sample(struct twin *t, int x, int y, int z, uint8_t temperature)
+enum peer_answer peer_sample(struct peer *t, int x, int y, int z, uint8_t temperature)
 {
-    const int sample[AXES] = {x, y, z};
+    const int sample[PEER_AXES] = {x, y, z};
 
     if (outside_12_bits(x) || outside_12_bits(y) || outside_12_bits(z))
-        return OUTSIDE_12_BITS;
-    for (int axis = 0; axis < AXES; axis++) {
+        return PEER_OUTSIDE_12_BITS;
+    for (int axis = 0; axis < PEER_AXES; axis++) {
         unsigned bits = (unsigned)sample[axis];
 
         t->reg[X_LSB + 2 * axis] = (uint8_t)((bits & 0x0F) << 4 | 1);
@@ -405,26 +405,26 @@ enum answer twin_sample(struct twin *t, int x, int y, int z, uint8_t temperature
     t->fresh_data = true;
     put_frame(t);
     any_motion(t, sample);
-    return DONE;
+    return PEER_DONE;
 }
 
-enum answer twin_cycle_start(struct twin *t)
+enum peer_answer peer_cycle_start(struct peer *t)
 {
     t->fresh_data = false;
-    return DONE;
+    return PEER_DONE;
 }
 
 /* ---- pins ---- */
 
 /* drive: bit 0 is the active level, bit 1 chooses open-drive. */
-static enum level pin_level(bool active, unsigned drive)
+static enum peer_level pin_level(bool active, unsigned drive)
 {
     if (!active && drive & 2)
-        return RELEASED;
-    return active == (drive & 1) ? HIGH : LOW;
+        return PEER_RELEASED;
+    return active == (drive & 1) ? PEER_HIGH : PEER_LOW;
 }
 
-struct pins twin_pins(const struct twin *t)
+struct peer_pins peer_pins(const struct peer *t)
 {
     unsigned status = status_data(t), map = t->reg[MAP_DATA], drive = t->reg[PIN_DRIVE];
     bool motion = t->motion.status;
@@ -434,5 +434,5 @@ struct pins twin_pins(const struct twin *t)
     bool int2 = (t->reg[MAP_INT2] & 0x04 && motion) || (map & 0x80 && data) ||
                 (map & 0x40 && watermark) || (map & 0x20 && full);
 
-    return (struct pins){pin_level(int1, drive & 3), pin_level(int2, drive >> 2 & 3)};
+    return (struct peer_pins){pin_level(int1, drive & 3), pin_level(int2, drive >> 2 & 3)};
 }

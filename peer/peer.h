@@ -1,0 +1,75 @@
+/* A twin of the BMA255 accelerometer: registers 0x00 to 0x3F, three data channels, the FIFO,
+   the any-motion detector and both interrupt pins. Plain C11, no heap, updated in place.
+
+   The caller owns a struct peer and starts it with peer_power_up(); the fields are not for use
+   outside peer.c. Each event gives back one of the numbers below; a number other than PEER_DONE
+   means that neither the twin nor the lent buffer has changed. All names begin with peer, so that
+   a program can hold this twin and the one of include/twin.h. */
+#ifndef PEER_H
+#define PEER_H
+
+#include <stdbool.h>
+#include <stddef.h>
+#include <stdint.h>
+
+enum {
+    PEER_CHIP_NUMBER = 0xFA,
+    PEER_DEPTH = 32, /* of the FIFO in FIFO and STREAM mode */
+    PEER_AXES = 3,
+    PEER_REGISTERS = 0x40,
+    PEER_LONGEST_READ = 192
+};
+
+enum peer_answer {
+    PEER_DONE = 0,              /* done, or a write that the chip ignores */
+    PEER_WRONG_ADDRESS = 1,     /* address above 0x3F */
+    PEER_RESERVED_CODE = 2,     /* write of a code the sheet reserves */
+    PEER_NOT_MODELLED = 3,      /* write of a setting not modelled here */
+    PEER_OUTSIDE_12_BITS = 4,   /* x, y or z outside -2048..2047 */
+    PEER_WRONG_READ_LENGTH = 5, /* read length 0 or above 192 */
+    PEER_READ_PASSES_3E = 6,    /* read starting below 0x3F that would pass 0x3E */
+    PEER_WRONG_VERSION = 7,     /* log version byte not 1 */
+    PEER_WRONG_RECORD = 8,      /* record length or kind wrong */
+    PEER_LOG_CUT = 9            /* log cut, or empty */
+};
+
+enum peer_level { PEER_LOW, PEER_HIGH, PEER_RELEASED };
+
+struct peer_pins {
+    enum peer_level int1, int2;
+};
+
+struct peer_fifo {
+    uint8_t frame[PEER_DEPTH][2 * PEER_AXES]; /* a ring; one axis uses the first two of a place */
+    uint8_t oldest;                           /* place of the oldest frame */
+    uint8_t count;                            /* frames held, never above the depth of the mode */
+    bool overrun;
+};
+
+struct peer_motion {
+    int16_t previous[PEER_AXES]; /* the sample before, if there is one */
+    bool has_previous;
+    bool status;      /* 0x09 bit 2 */
+    uint8_t marks;    /* 0x0B bits 2:0 */
+    bool negative;    /* 0x0B bit 3 */
+    uint8_t over_run; /* over points in a row, counted up to N */
+    uint8_t calm_run; /* calm points in a row, counted up to N */
+};
+
+struct peer {
+    uint8_t reg[PEER_REGISTERS]; /* 0x09 to 0x0C, 0x0E and 0x3F are worked out when read */
+    uint8_t lock[PEER_AXES];     /* the MSB byte held for a locked axis */
+    bool locked[PEER_AXES];
+    bool fresh_data; /* a sample came since the last cycle start or reset */
+    struct peer_fifo fifo;
+    struct peer_motion motion;
+};
+
+void peer_power_up(struct peer *t);
+enum peer_answer peer_write(struct peer *t, uint8_t address, uint8_t byte);
+enum peer_answer peer_read(struct peer *t, uint8_t address, uint8_t *buffer, size_t length);
+enum peer_answer peer_sample(struct peer *t, int x, int y, int z, uint8_t temperature);
+enum peer_answer peer_cycle_start(struct peer *t);
+struct peer_pins peer_pins(const struct peer *t);
+
+#endif

@@ -1,0 +1,74 @@
+/* The library and the C twin of peer/ in one program: the same events to both, chosen by a seeded generator, and every answer, byte
+ * read and pin level is the same. tests/entry builds and runs it; it prints the checks and those that failed. use: both EVENTS */
+#include <stdio.h>
+#include <stdlib.h>
+#include <string.h>
+#include "twin.h"
+#include "../peer/peer.h"
+
+static struct twin twin;
+static struct peer peer;
+static uint64_t state = 1;
+
+static unsigned below(unsigned n) {
+    state = state * 6364136223846793005u + 1442695040888963407u;
+    return (unsigned)((state >> 33) % n);
+}
+
+/* one of the registers that do something, or any byte */
+static uint8_t an_address(void) {
+    static const uint8_t busy[] = {0x0F, 0x13, 0x14, 0x16, 0x17, 0x19, 0x1A, 0x1B, 0x20, 0x21, 0x27, 0x28, 0x30, 0x3E};
+    return below(4) ? busy[below(sizeof busy)] : (uint8_t)below(below(8) ? 0x41 : 0x100);
+}
+
+/* near a bound, near zero, or anywhere in 16 bits */
+static int a_count(void) {
+    static const int near[] = {-2048, 2047, 0, 0, 0, 0};
+    return below(40) ? near[below(6)] + (int)below(13) - 6 : (int)below(0x10000) - 0x8000;
+}
+
+static bool write_both(void) {
+    uint8_t address = an_address(), byte = (uint8_t)(below(2) ? below(8) : below(0x100));
+    if (address == 0x14 && below(8)) byte = 0; /* a soft reset now and then */
+    return twin_write(&twin, address, byte) == (uint8_t)peer_write(&peer, address, byte);
+}
+
+static bool read_both(void) {
+    uint8_t ours[200], theirs[200], address = below(3) ? (uint8_t)below(0x42) : 0x3F;
+    size_t length = below(2) ? below(8) : below(200);
+    memset(ours, 0xA5, sizeof ours);
+    memset(theirs, 0xA5, sizeof theirs);
+    return twin_read(&twin, address, ours, length) == (uint8_t)peer_read(&peer, address, theirs, length)
+        && memcmp(ours, theirs, sizeof ours) == 0;
+}
+
+static bool sample_both(void) {
+    int x = a_count(), y = a_count(), z = a_count();
+    uint8_t temperature = (uint8_t)below(0x100);
+    return twin_sample(&twin, x, y, z, temperature) == (uint8_t)peer_sample(&peer, x, y, z, temperature);
+}
+
+static bool event_both(void) {
+    unsigned kind = below(16);
+    if (kind < 4) return write_both();
+    if (kind < 7) return read_both();
+    if (kind < 15) return sample_both();
+    return twin_cycle(&twin) == (uint8_t)peer_cycle_start(&peer);
+}
+
+static bool pins_same(void) {
+    struct peer_pins pins = peer_pins(&peer);
+    return twin_int1(&twin) == (uint8_t)pins.int1 && twin_int2(&twin) == (uint8_t)pins.int2;
+}
+
+int main(int argc, char **argv) {
+    long events = argc > 1 ? atol(argv[1]) : 1000000, failed = 0;
+    twin_power_up(&twin);
+    peer_power_up(&peer);
+    for (long i = 0; i < events; i++)
+        if (!event_both() || !pins_same()) {
+            if (failed++ == 0) fprintf(stderr, "tests/both.c: the twins differ at event %ld\n", i + 1);
+        }
+    printf("%ld %ld\n", events, failed);
+    return failed != 0;
+}

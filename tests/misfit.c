@@ -1,0 +1,54 @@
+/* Power-up with a library that does not fit the header, which this file stands in for: it is refused, and the record with it. The real
+ * library's functions are called by nothing here. tests/entry builds and runs it; it prints the checks and those that failed. */
+#include <stdio.h>
+#include "twin.h"
+#undef twin_power_up
+#undef twin_event
+#undef twin_pins
+
+static size_t size, alignment;
+static int calls;
+
+size_t twin_size(void) { return size; }
+size_t twin_alignment(void) { return alignment; }
+void twin_power_up(struct twin *twin) {
+    calls++;
+    *(unsigned char *)twin = TWIN_CHIP;
+}
+uint8_t twin_event(struct twin *twin, uint8_t kind, uint8_t address, uint8_t byte, int16_t x, int16_t y, int16_t z, uint8_t *buffer,
+                   size_t length) {
+    (void)twin, (void)kind, (void)address, (void)byte, (void)x, (void)y, (void)z, (void)buffer, (void)length;
+    calls++;
+    return 0;
+}
+uint8_t twin_pins(const struct twin *twin) {
+    (void)twin;
+    calls++;
+    return 0;
+}
+
+/* whether a chip of that size and alignment is powered up; what is refused calls nothing of the library and answers nothing but 255 */
+static bool is_powered_up(size_t its_size, size_t its_alignment) {
+    static union { struct twin twin; char room[2 * TWIN_ROOM]; } place;
+    struct twin *twin = (struct twin *)(void *)(((uintptr_t)place.room + 63) / 64 * 64 + 8); /* a multiple of 8, not of 16 */
+    uint8_t answer;
+    size = its_size, alignment = its_alignment, calls = 0;
+    *(unsigned char *)twin = TWIN_CHIP;
+    answer = twin_checked_power_up(twin);
+    if (answer == TWIN_MISFIT && calls == 0 && twin_cycle(twin) == TWIN_NOT_POWERED && twin_int1(twin) == TWIN_NOT_POWERED && calls == 0) return false;
+    if (answer == TWIN_DONE && calls == 1 && twin_cycle(twin) == TWIN_DONE && twin_int2(twin) == TWIN_LOW && calls == 3) return true;
+    printf("tests/misfit.c: size %zu, alignment %zu: answer %u, %d calls\n", its_size, its_alignment, answer, calls);
+    return its_size > TWIN_ROOM || its_alignment > 8; /* what is wrong for these */
+}
+
+int main(void) {
+    int failed = 0;
+    failed += !is_powered_up(1, 1);
+    failed += !is_powered_up(312, 8);
+    failed += !is_powered_up(TWIN_ROOM, 8);
+    failed += is_powered_up(TWIN_ROOM + 1, 8);
+    failed += is_powered_up(SIZE_MAX, 8);
+    failed += is_powered_up(312, 16);
+    printf("6 %d\n", failed);
+    return failed != 0;
+}
