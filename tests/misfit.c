@@ -37,7 +37,7 @@ static bool is_powered_up(size_t its_size, size_t its_alignment) {
     answer = twin_checked_power_up(twin);
     if (answer == TWIN_MISFIT && calls == 0 && twin_cycle(twin) == TWIN_NOT_POWERED && twin_int1(twin) == TWIN_NOT_POWERED && calls == 0) return false;
     if (answer == TWIN_DONE && calls == 1 && twin_cycle(twin) == TWIN_DONE && twin_int2(twin) == TWIN_LOW && calls == 3) return true;
-    printf("tests/misfit.c: size %zu, alignment %zu: answer %u, %d calls\n", its_size, its_alignment, answer, calls);
+    fprintf(stderr, "tests/misfit.c: size %zu, alignment %zu: answer %u, %d calls\n", its_size, its_alignment, answer, calls);
     return its_size > TWIN_ROOM || its_alignment > 8; /* what is wrong for these */
 }
 
