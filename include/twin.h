@@ -6,11 +6,11 @@
  *     if (twin_read(&chip, 0x00, &id, 1) == TWIN_DONE) printf("chip %02X\n", id); // chip FA
  *
  * A record is one chip. It is the caller's own, wherever the caller keeps it: nothing is allocated, and there are no variables behind
- * the scenes. A copy of a record, by assignment or memcpy, is a second chip in the same state. Threads: one record, one thread at a
- * time; two records have nothing to do with each other.
+ * the scenes. A copy of a record, by assignment or memcpy, is a second chip in the same state; memcmp does not tell whether two are in
+ * the same state. Threads: one record, one thread at a time; two records have nothing to do with each other.
  *
- * What the caller owes, since C cannot see it: a pointer that is not NULL leads to a whole struct twin, and a buffer has as many bytes
- * as the count says. All else is answered by a number, and whatever is refused changes neither the record nor the buffer. */
+ * Every call is answered by a number, and an event that is refused changes neither the record nor the buffer. What the caller owes, since
+ * C cannot see it: a pointer that is not NULL leads to a whole struct twin, and a buffer has as many bytes as the count says. */
 #ifndef TWIN_H
 #define TWIN_H
 
@@ -79,8 +79,8 @@ static inline bool twin_is_powered(const struct twin *twin) {
     return twin != NULL && *(const unsigned char *)twin == TWIN_CHIP;
 }
 
-/* Whether it is NULL with a count, or overlaps the record. A count above TWIN_LONGEST_READ is refused and no byte is touched, so only
- * the number speaks of it. */
+/* Whether it is NULL with a count, or overlaps the record. A read of no bytes or of more than TWIN_LONGEST_READ touches none: its
+ * length is refused. */
 static inline bool twin_is_bad_buffer(const struct twin *twin, const uint8_t *buffer, size_t length) {
     uintptr_t record = (uintptr_t)twin, start = (uintptr_t)buffer;
     if (buffer == NULL) return length != 0;
@@ -90,8 +90,8 @@ static inline bool twin_is_bad_buffer(const struct twin *twin, const uint8_t *bu
 
 /* ---- functions for every caller */
 
-/* The record becomes that of a chip at power-up, whatever it held: no byte of it stays as it was. Answers TWIN_DONE; TWIN_NOT_POWERED
- * for NULL; TWIN_MISFIT, with a record that refuses everything until it is powered up. */
+/* The record becomes that of a chip at power-up, whatever it held: no byte of it stays as it was. Answers TWIN_DONE; or TWIN_NOT_POWERED
+ * for NULL; or TWIN_MISFIT, and leaves zeros, which every function refuses. */
 static inline uint8_t twin_checked_power_up(struct twin *twin) {
     if (twin == NULL) return TWIN_NOT_POWERED;
     memset(twin, 0, sizeof *twin);
@@ -102,7 +102,7 @@ static inline uint8_t twin_checked_power_up(struct twin *twin) {
 #define twin_power_up twin_checked_power_up
 
 /* One event: TWIN_WRITE (address, byte), TWIN_READ (address; length bytes into buffer), TWIN_SAMPLE (x, y, z; byte is the temperature)
- * or TWIN_CYCLE. What the kind does not name is not looked at; buffer may be NULL where length is 0. */
+ * or TWIN_CYCLE. What the kind does not name does not matter, but the buffer is looked at for every kind: NULL needs length 0. */
 static inline uint8_t twin_checked_event(struct twin *twin, uint8_t kind, uint8_t address, uint8_t byte, int16_t x, int16_t y, int16_t z,
                                          uint8_t *buffer, size_t length) {
     uint8_t none = 0;

@@ -18,15 +18,19 @@ static bool all(const void *bytes, size_t count, int value) {
     return true;
 }
 
-/* whether two chips in turn show the same: registers, frames, pins, and what some motion does to them; works on copies */
+/* whether two chips give the same bytes */
+static bool read_same(struct twin *a, struct twin *b, uint8_t address, size_t length) {
+    uint8_t of_a[192], of_b[192];
+    return twin_read(a, address, of_a, length) == TWIN_DONE && twin_read(b, address, of_b, length) == TWIN_DONE
+        && memcmp(of_a, of_b, length) == 0;
+}
+
+/* whether two chips show the same: registers, frames, pins, and what some motion does to them; works on copies */
 static bool same(const struct twin *one, const struct twin *other) {
     struct twin a = *one, b = *other;
     for (int turn = 0; turn < 6; turn++) {
-        uint8_t of_a[192], of_b[192];
-        if (twin_pins(&a) != twin_pins(&b)) return false;
-        if (twin_read(&a, 0x00, of_a, 63) != TWIN_DONE || twin_read(&b, 0x00, of_b, 63) != TWIN_DONE || memcmp(of_a, of_b, 63) != 0) return false;
-        if (turn == 0 && (twin_read(&a, 0x3F, of_a, 192) != TWIN_DONE || twin_read(&b, 0x3F, of_b, 192) != TWIN_DONE || memcmp(of_a, of_b, 192) != 0))
-            return false;
+        if (twin_pins(&a) != twin_pins(&b) || !read_same(&a, &b, 0x00, 63)) return false;
+        if (turn == 0 && !read_same(&a, &b, 0x3F, 192)) return false;
         twin_sample(&a, 100 * turn, -turn, 0, 0);
         twin_sample(&b, 100 * turn, -turn, 0, 0);
     }
@@ -146,10 +150,11 @@ static void power_up(void) {
     for (size_t i = 0; i < sizeof one; i++) HOLDS(((uint8_t *)&one)[i] != FILL || ((uint8_t *)&other)[i] != OTHER_FILL);
     HOLDS(same(&one, &other));
     for (size_t shift = 1; shift < 8; shift++) {
-        struct twin *shifted = (struct twin *)(void *)((uint8_t *)place + shift);
+        uint8_t *start = (uint8_t *)place;
+        struct twin *shifted = (struct twin *)(void *)(start + shift);
         memset(place, TWIN_CHIP, sizeof place);
         HOLDS(twin_power_up(shifted) == TWIN_MISFIT);
-        HOLDS(all(shifted, sizeof *shifted, 0) && all(place, shift, TWIN_CHIP) && all((uint8_t *)place + shift + TWIN_ROOM, 8 - shift, TWIN_CHIP));
+        HOLDS(all(start, shift, TWIN_CHIP) && all(start + shift, TWIN_ROOM, 0) && all(start + shift + TWIN_ROOM, 8 - shift, TWIN_CHIP));
         HOLDS(twin_cycle(shifted) == TWIN_NOT_POWERED);
     }
 }
