@@ -1,100 +1,195 @@
-// Pumps a log from one descriptor through the replay to another. No contract can say what is read or written: this holds two
-// buffers and decides when to read and when to write; every byte of the text is the replay's.
-ghost use Prim.Native.Nat.{_≤_};
+// Pumps a log from one descriptor through the replay to another. No contract can say what is read or written: of the two calls this
+// says what they are handed and what is made of what they give; every byte of the text is the replay's.
+ghost use mathlib.Core.Path.{_≡_};
+ghost use Prim.Native.Nat.{_+_, _≤_, _<_};
+ghost use lib.ListN.{length};
+ghost use mir.Syntax.{w64};
+ghost use mir.Val.{Fits};
+ghost use Rattle.laws.specs.Bytes.{movedForward};
+ghost use Rattle.playback.specs.Replay.{Running};
+ghost use Rattle.stream.specs.Pump.{pumpStart, Within, unused, ranOver, afterRun, atFront, withRead, isOn, isWait, howAfter, RefilledAs, TurnedAs};
+use laws::move_forward;
 use playback::Next;
+use playback::Ran;
 use playback::Replay;
 use playback::run;
 
-// The replay; the bytes of the input that are there and not used, from one place of the buffer up to another; whether the input
-// has ended; and whether the pump is done.
+// The replay; the bytes of the input that are there and not used, from one place of the buffer up to another; and whether the input
+// has ended.
 struct State {
     replay: Replay,
     from: usize,
     to: usize,
     last: bool,
-    done: bool,
 }
 
-// A state with nothing left to do.
-fn done(state: State) -> State {
-    let mut next = state;
-    next.done = true;
-    next
+// What a turn of the pump comes to: another turn, the end of the replay, or a call that failed.
+enum How {
+    On,
+    Stopped,
+    NotRead,
+    NotWritten,
 }
 
-// The bytes of a buffer between two places, which are not used yet, go to its front: how many they are.
-fn keep_rest(buffer: &mut [u8], from: usize, to: usize) -> usize
-    ensures { λ r. ⌜ r ≤ to ⌝ }
+// That, and the state behind the turn.
+struct Turned {
+    how: How,
+    state: State,
+}
+
+// What a read gave: that it failed, or how many bytes.
+struct Got {
+    failed: bool,
+    count: usize,
+}
+
+// Before the first read.
+fn begin() -> State
+    ensures { λ r. ⌜ r ≡ pumpStart ⌝ }
 {
-    if buffer.len() < to {
-        return 0;
+    State {
+        replay: Replay::start(),
+        from: 0,
+        to: 0,
+        last: false,
     }
-    let mut i: usize = 0;
-    let mut at = from;
-    while at < to {
-        buffer[i] = buffer[at];
-        i += 1;
-        at += 1;
-    }
-    i
 }
 
-// More of the input behind what is left of it. At its end, what is left is the last part; where it cannot be read, the pump is
-// done, and the text goes no further.
-fn refill(input: i32, state: State, buffer: &mut [u8]) -> State {
-    let kept = keep_rest(&mut *buffer, state.from, state.to);
-    let mut next = state;
-    next.from = 0;
-    next.to = kept;
-    if buffer.len() <= kept {
-        return done(next);
-    }
-    let got = libc::read(input, &mut buffer[kept..]);
-    if got < 0 {
-        return done(next);
-    }
-    let n = io::count(got, &buffer[kept..]);
-    next.last = n == 0;
-    next.to = kept + n;
-    next
-}
-
-// The text up to a place is written: whether it was.
-fn put(output: i32, text: &[u8], end: usize) -> bool {
-    if text.len() < end {
-        return false;
-    }
-    io::write_all(output, &text[..end])
-}
-
-// One run over what is there, and its text.
-fn turn(input: i32, output: i32, state: State, buffer: &mut [u8], text: &mut [u8]) -> State {
+// A run over all that came and is not used.
+fn run_over(state: State, buffer: &[u8], text: &mut [u8]) -> Ran
+    requires { ⌜ Within state (length (now buffer)) ⌝ }
+    ensures { λ r. ⌜ Running (now (text .entry)) (ranOver state (now (buffer .entry)) (length (now (text .entry)))) (now (text .exit)) r ⌝ }
+{
+    let replay = state.replay;
     let from = state.from;
     let to = state.to;
-    if to < from {
-        return done(state);
+    run(replay, &buffer[from..to], state.last, text)
+}
+
+// The state behind a run.
+fn after_run(state: State, ran: Ran) -> State
+    requires { ⌜ Fits w64 (state .from + ran .used) ⌝ }
+    ensures { λ r. ⌜ r ≡ afterRun state (ran .replay) (ran .used) ⌝ }
+{
+    let replay = ran.replay;
+    State {
+        replay,
+        from: state.from + ran.used,
+        to: state.to,
+        last: state.last,
     }
-    if buffer.len() < to {
-        return done(state);
-    }
+}
+
+// What is not used moves to the front of the buffer.
+fn move_to_front(state: State, buffer: &mut [u8]) -> State
+    ensures { λ r. ⌜ (r ≡ atFront state (now (buffer .entry))) × (now (buffer .exit) ≡ movedForward (state .from) (state .to) (now (buffer .entry))) ⌝ }
+{
+    let to = move_forward(buffer, state.from, state.to);
     let replay = state.replay;
-    let ran = run(replay, &buffer[from..to], state.last, &mut *text);
-    if to - from < ran.used {
-        return done(state);
+    State {
+        replay,
+        from: 0,
+        to,
+        last: state.last,
     }
-    let after = ran.replay;
-    let mut next = state;
-    next.replay = after;
-    next.from = from + ran.used;
-    if !put(output, &*text, ran.to) {
-        return done(next);
+}
+
+// The state behind a read of so many bytes: of none, where the input has ended.
+fn after_read(state: State, n: usize) -> State
+    requires { ⌜ Fits w64 (state .to + n) ⌝ }
+    ensures { λ r. ⌜ r ≡ withRead state n ⌝ }
+{
+    let replay = state.replay;
+    State {
+        replay,
+        from: state.from,
+        to: state.to + n,
+        last: n == 0,
     }
+}
+
+// A read into some room: where there is none, it would give nothing and look like the end of the input.
+fn read_into(input: i32, room: &mut [u8]) -> Got
+    requires { ⌜ 1 ≤ length (now room) ⌝ }
+    ensures { λ r. ⌜ r .count ≤ length (now (room .entry)) ⌝ }
+{
+    let got = libc::read(input, &mut *room);
+    Got {
+        failed: got < 0,
+        count: io::count(got, room),
+    }
+}
+
+fn came_to(how: How, state: State) -> Turned
+    ensures { λ r. ⌜ (r .how ≡ how) × (r .state ≡ state) ⌝ }
+{
+    Turned { how, state }
+}
+
+// More of the input behind what is not used.
+fn refill(input: i32, state: State, buffer: &mut [u8]) -> Turned
+    requires { ⌜ length (unused state (now buffer)) < length (now buffer) ⌝ }
+    ensures { λ r. ⌜ RefilledAs (r .how) state (now (buffer .entry)) (r .state) (now (buffer .exit)) ⌝ }
+{
+    let front = move_to_front(state, &mut *buffer);
+    let to = front.to;
+    let got = read_into(input, &mut buffer[to..]);
+    if got.failed {
+        return came_to(How::NotRead, front);
+    }
+    came_to(How::On, after_read(front, got.count))
+}
+
+// Whether a run waits for more of the log.
+fn waits(next: Next) -> bool
+    ensures { λ r. ⌜ r ≡ isWait next ⌝ }
+{
+    match next {
+        Next::Go => false,
+        Next::Wait => true,
+        Next::Full => false,
+        Next::Stop => false,
+    }
+}
+
+// What a turn comes to behind a run that does not wait. No run ends with Go.
+fn how_after(next: Next) -> How
+    ensures { λ r. ⌜ r ≡ howAfter next ⌝ }
+{
+    match next {
+        Next::Go => How::On,
+        Next::Wait => How::On,
+        Next::Full => How::On,
+        Next::Stop => How::Stopped,
+    }
+}
+
+// One run, its text, and where the run waits for more, a read.
+fn turn(input: i32, output: i32, state: State, buffer: &mut [u8], text: &mut [u8]) -> Turned
+    requires { ⌜ Within state (length (now buffer)) × (65536 ≡ length (now buffer)) ⌝ }
+    ensures { λ r. ⌜ TurnedAs (r .how) state (now (buffer .entry)) (length (now (text .entry))) (r .state) (now (buffer .exit)) ⌝ }
+{
+    let ran = run_over(state, &*buffer, &mut *text);
+    let to = ran.to;
+    if !io::write_all(output, &text[..to]) {
+        return came_to(How::NotWritten, state);
+    }
+    let next = after_run(state, ran);
     let why = ran.next;
-    match why {
-        Next::Go => next,
-        Next::Wait => refill(input, next, buffer),
-        Next::Full => next,
-        Next::Stop => done(next),
+    if waits(why) {
+        return refill(input, next, buffer);
+    }
+    came_to(how_after(why), next)
+}
+
+fn goes_on(how: How) -> bool
+    ensures { λ r. ⌜ r ≡ isOn how ⌝ }
+{
+    match how {
+        How::On => true,
+        How::Stopped => false,
+        How::NotRead => false,
+        How::NotWritten => false,
     }
 }
 
@@ -102,17 +197,14 @@ fn turn(input: i32, output: i32, state: State, buffer: &mut [u8], text: &mut [u8
 pub fn pump(input: i32, output: i32) {
     let mut buffer = io::large_buffer();
     let mut text = io::large_buffer();
-    let mut state = State {
-        replay: Replay::start(),
-        from: 0,
-        to: 0,
-        last: false,
-        done: false,
-    };
+    let mut state = begin();
     let mut turns = u64::MAX;
     while 0 < turns {
-        state = turn(input, output, state, &mut buffer, &mut text);
-        if state.done {
+        let turned = turn(input, output, state, &mut buffer, &mut text);
+        let next = turned.state;
+        state = next;
+        let how = turned.how;
+        if !goes_on(how) {
             return;
         }
         turns -= 1;

@@ -1,0 +1,73 @@
+-- A turn: what its run used, what it left, and what follows it.
+-- Assumes nothing.
+use Prim.Native.Nat.{ℕ, _+_, _-_, _≤_, _<_}
+use mathlib.Core.Bool.{Bool, true, false}
+use mathlib.Core.List.{List}
+use mathlib.Core.Path.{_≡_, refl, sym, ap, _∙_}
+use native.Mathlib.Omega.{arith}
+use lib.ListN.{length, take, drop}
+use lib.Seq.{length-take-le}
+use Rattle.text.proofs.Texts.{pushed-length}
+use Rattle.playback.specs.Replay.{longestRecord, Running, runOf}
+use Rattle.playback.specs.declared.Next.{Next}
+use Rattle.playback.specs.declared.Next.the-variants.{Go, Wait, Full, Stop}
+use Rattle.playback.specs.declared.Ran.{Ran}
+use Rattle.playback.proofs.Stream.{never-go, waits, used-within}
+use Rattle.stream.specs.declared.State.{State}
+use Rattle.stream.specs.declared.How.{How}
+use Rattle.stream.specs.declared.How.the-variants.{On, Stopped, NotRead, NotWritten}
+use Rattle.stream.specs.Pump.{Within, unused, ranOver, afterRun, isOn, isWait, howAfter, Went, emptied, refilled, RefilledAs, TurnedAs}
+use Rattle.stream.proofs.Places.{unused-after, length-unused}
+
+pub is-waiting : (n : Next) → isWait n ≡ true → n ≡ Wait
+is-waiting Go e = let z : _≡_ {A = ℕ} 0 1 = cc in absurd (omega arith)
+is-waiting Wait e = refl
+is-waiting Full e = let z : _≡_ {A = ℕ} 0 1 = cc in absurd (omega arith)
+is-waiting Stop e = let z : _≡_ {A = ℕ} 0 1 = cc in absurd (omega arith)
+
+module _ (s : State) (buffer : List ℕ) (room : ℕ) {ran : Ran} {out out′ : List ℕ} (within : Within s (length buffer)) (is : Running out (ranOver s buffer room) out′ ran) where
+  abbrev next : State
+  next = afterRun s (ran .replay) (ran .used)
+
+  next-is : next ≡ afterRun s (ranOver s buffer room .replay) (ranOver s buffer room .at)
+  next-is = rw (is .replay, is .used)
+
+  -- what is used was there
+  pub used-there : s .from + ran .used ≤ s .to
+  used-there = omega (arith, used-within (unused s buffer) (s .last) (s .replay) room, is .used, length-unused s buffer within)
+
+  next-within : Within next (length buffer)
+  next-within = (used-there, within .1)
+
+  -- the text stands in the buffer that was lent for it
+  pub text-there : ran .to ≡ length (take (ran .to) out′)
+  text-there = sym (length-take-le (ran .to) out′ (omega (arith, is .text .place, is .text .room, pushed-length (is .text))))
+
+  -- where it waits, less than a record is left
+  pub little-left : ran .next ≡ Wait → length (unused next buffer) < longestRecord
+  little-left e = rw (unused-after s (ran .replay) (ran .used) buffer, is .used) (waits (s .replay) (unused s buffer) (s .last) room (sym (is .next) ∙ e) .1)
+
+  pub turned-on : isWait (ran .next) ≡ false → TurnedAs (howAfter (ran .next)) s buffer room next buffer
+  turned-on = go (ran .next) refl
+    where
+      go : (n : Next) → ran .next ≡ n → isWait n ≡ false → TurnedAs (howAfter n) s buffer room next buffer
+      go Go e f = absurd (never-go (s .replay) (unused s buffer) (s .last) room (sym (is .next) ∙ e))
+      go Wait e f = let z : _≡_ {A = ℕ} 0 1 = cc in absurd (omega arith)
+      go Full e f = (emptied (sym (is .next) ∙ e) next-is refl, next-within)
+      go Stop e f = sym (is .next) ∙ e
+
+  pub turned-by-read : (how : How) (s′ : State) (buffer′ : List ℕ) → isWait (ran .next) ≡ true → RefilledAs how next buffer s′ buffer′ → TurnedAs how s buffer room s′ buffer′
+  turned-by-read how s′ buffer′ w = go how (sym (is .next) ∙ is-waiting (ran .next) w)
+    where
+      go : (h : How) → ranOver s buffer room .next ≡ Wait → RefilledAs h next buffer s′ buffer′ → TurnedAs h s buffer room s′ buffer′
+      go On e r = (refilled e (rw (sym next-is) (r .0)), r .1)
+      go Stopped e r = absurd r
+      go NotRead e r = e
+      go NotWritten e r = absurd r
+
+-- where the pump goes on, the places are within the buffer
+pub on-within : (how : How) (s : State) (buffer : List ℕ) (room : ℕ) (s′ : State) (buffer′ : List ℕ) → isOn how ≡ true → TurnedAs how s buffer room s′ buffer′ → Within s′ (length buffer)
+on-within On s buffer room s′ buffer′ e t = t .1
+on-within Stopped s buffer room s′ buffer′ e t = let z : _≡_ {A = ℕ} 0 1 = cc in absurd (omega arith)
+on-within NotRead s buffer room s′ buffer′ e t = let z : _≡_ {A = ℕ} 0 1 = cc in absurd (omega arith)
+on-within NotWritten s buffer room s′ buffer′ e t = let z : _≡_ {A = ℕ} 0 1 = cc in absurd (omega arith)

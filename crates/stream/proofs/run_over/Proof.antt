@@ -1,0 +1,17 @@
+use borrow.Author.Needs.{needs}
+use denote.Ref.{now}
+use Rattle.stream.specs.Pump.{unused}
+use Rattle.stream.proofs.Places.{part-between}
+use Rattle.stream.proofs.run_over.Statement.{statement}
+use Rattle.stream.proofs.run_over.Tie as tie
+
+returns : tie.Need-returns
+unfolding unused
+returns c =
+    let start = c .before .before .before .before .before .before .before .before in
+    let s = start .args .state in
+    rw (← part-between (s .from) (s .to) (now (start .args .buffer)) (start .pre .0) (start .pre .1)) (c .before .before .run .ensures)
+
+pub run-over-spec : {M : Type 1} → statement M
+run-over-spec =
+    tie.close (tie.spec (λ c. search needs) (λ c. search needs) (λ c. search needs) (λ c κs. tt) (λ c. search needs) returns)

@@ -1,0 +1,117 @@
+-- How a log goes from its input through the replay to its output: what the pump does around its two calls, read and write.
+use Prim.Native.Nat.{ℕ, _+_, _≤_, _<_}
+use mathlib.Core.Path.{_≡_}
+use mathlib.Core.Bool.{Bool, true, false}
+use mathlib.Core.List.{List, [], _∷_, _++_}
+use lib.ListN.{length}
+use lib.Dec.{eqb}
+use Rattle.laws.specs.Bytes.{between}
+use Rattle.playback.specs.Replay.{start, Turn, runOf}
+use Rattle.playback.specs.declared.Replay.{Replay}
+use Rattle.playback.specs.declared.Next.{Next}
+use Rattle.playback.specs.declared.Next.the-variants.{Go, Wait, Full, Stop}
+use Rattle.stream.specs.declared.State.{State}
+use Rattle.stream.specs.declared.How.{How}
+use Rattle.stream.specs.declared.How.the-variants.{On, Stopped, NotRead, NotWritten}
+
+-- ---- between the calls
+-- before the first read
+abbrev pub pumpStart : State
+pumpStart = record { replay = start; from = 0; to = 0; last = false }
+
+-- the places lie within a buffer of so many bytes
+abbrev pub Within : State → ℕ → Type 0
+Within s room = (s .from ≤ s .to) × (s .to ≤ room)
+
+-- what came and is not used: a run is handed it, whole
+unfoldable pub unused : State → List ℕ → List ℕ
+unused s buffer = between (s .from) (s .to) buffer
+
+-- the run over it, with room for so much text
+abbrev pub ranOver : State → List ℕ → ℕ → Turn
+ranOver s buffer room = runOf (s .replay) (unused s buffer) (s .last) room
+
+-- after a run that came to this replay and used so many bytes
+abbrev pub afterRun : State → Replay → ℕ → State
+afterRun s r used = record { replay = r; from = s .from + used; to = s .to; last = s .last }
+
+-- with what is not used at the front of the buffer
+abbrev pub atFront : State → List ℕ → State
+atFront s buffer = record { replay = s .replay; from = 0; to = length (unused s buffer); last = s .last }
+
+-- after a read of so many bytes: of none, where the input has ended
+abbrev pub withRead : State → ℕ → State
+withRead s n = record { replay = s .replay; from = s .from; to = s .to + n; last = eqb n 0 }
+
+-- ---- the calls
+-- a read gave part: it stands behind what was not used
+pub record Refilled (s : State) (buffer : List ℕ) (s′ : State) (buffer′ : List ℕ) : Type 0 where
+  pub part : List ℕ
+  pub state : s′ ≡ withRead (atFront s buffer) (length part)
+  pub bytes : unused s′ buffer′ ≡ unused s buffer ++ part
+
+-- the run's text is full, and is written; or it waits, its text is written, and more is read
+pub data Went (s : State) (buffer : List ℕ) (room : ℕ) (s′ : State) (buffer′ : List ℕ) : Type 0 where
+  emptied : ranOver s buffer room .next ≡ Full → s′ ≡ afterRun s (ranOver s buffer room .replay) (ranOver s buffer room .at) → buffer′ ≡ buffer
+      → Went s buffer room s′ buffer′
+  refilled : ranOver s buffer room .next ≡ Wait → Refilled (afterRun s (ranOver s buffer room .replay) (ranOver s buffer room .at)) buffer s′ buffer′
+      → Went s buffer room s′ buffer′
+
+abbrev pub isWait : Next → Bool
+isWait Go = false
+isWait Wait = true
+isWait Full = false
+isWait Stop = false
+
+-- behind a run that does not wait
+abbrev pub howAfter : Next → How
+howAfter Go = On
+howAfter Wait = On
+howAfter Full = On
+howAfter Stop = Stopped
+
+abbrev pub isOn : How → Bool
+isOn On = true
+isOn Stopped = false
+isOn NotRead = false
+isOn NotWritten = false
+
+-- what reading more comes to
+abbrev pub RefilledAs : How → State → List ℕ → State → List ℕ → Type 0
+RefilledAs On s buffer s′ buffer′ = Refilled s buffer s′ buffer′ × Within s′ (length buffer)
+RefilledAs Stopped s buffer s′ buffer′ = ⊥
+RefilledAs NotRead s buffer s′ buffer′ = Unit {0}
+RefilledAs NotWritten s buffer s′ buffer′ = ⊥
+
+-- a turn, over a buffer and room for so much text: it stops exactly where its run does, unless a call fails
+abbrev pub TurnedAs : How → State → List ℕ → ℕ → State → List ℕ → Type 0
+TurnedAs On s buffer room s′ buffer′ = Went s buffer room s′ buffer′ × Within s′ (length buffer)
+TurnedAs Stopped s buffer room s′ buffer′ = ranOver s buffer room .next ≡ Stop
+TurnedAs NotRead s buffer room s′ buffer′ = ranOver s buffer room .next ≡ Wait
+TurnedAs NotWritten s buffer room s′ buffer′ = Unit {0}
+
+-- ---- turns in a row
+-- what the reads give: one part after the other, of which none is empty, and then nothing
+abbrev pub NoneEmpty : List (List ℕ) → Type 0
+NoneEmpty [] = Unit {0}
+NoneEmpty (part ∷ parts) = (1 ≤ length part) × NoneEmpty parts
+
+abbrev pub nextPart : List (List ℕ) → List ℕ
+nextPart [] = []
+nextPart (part ∷ parts) = part
+
+abbrev pub laterParts : List (List ℕ) → List (List ℕ)
+laterParts [] = []
+laterParts (part ∷ parts) = parts
+
+-- turns from a state on, up to where the replay stops: the buffer, the parts that have not been read, and the text that is written
+pub data Turns : State → List ℕ → List (List ℕ) → List ℕ → Type 0 where
+  stopped : {s : State} {buffer : List ℕ} {parts : List (List ℕ)} (room : ℕ) → ranOver s buffer room .next ≡ Stop
+      → Turns s buffer parts (ranOver s buffer room .text)
+  emptied : {s : State} {buffer : List ℕ} {parts : List (List ℕ)} {text : List ℕ} (room : ℕ) → ranOver s buffer room .next ≡ Full
+      → Turns (afterRun s (ranOver s buffer room .replay) (ranOver s buffer room .at)) buffer parts text
+      → Turns s buffer parts (ranOver s buffer room .text ++ text)
+  refilled : {s s′ : State} {buffer buffer′ : List ℕ} {parts : List (List ℕ)} {text : List ℕ} (room : ℕ) → ranOver s buffer room .next ≡ Wait
+      → (r : Refilled (afterRun s (ranOver s buffer room .replay) (ranOver s buffer room .at)) buffer s′ buffer′) → r .part ≡ nextPart parts
+      → Turns s′ buffer′ (laterParts parts) text
+      → Turns s buffer parts (ranOver s buffer room .text ++ text)
