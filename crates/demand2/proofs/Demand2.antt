@@ -36,7 +36,7 @@ use Rattle.rules.proofs.Pins.{pins}
 use Rattle.demand2.specs.Demand2.{elsewhere, Demand2}
 
 -- ---- what the device shows of the FIFO and of any-motion is what the events tell
-elsewhere-is : (es : List Event) → elsewhereIn (after es) ≡ elsewhere es
+pub elsewhere-is : (es : List Event) → elsewhereIn (after es) ≡ elsewhere es
 unfolding elsewhere packed
 elsewhere-is es = λ i. record {
   count = device-holds es i .count;

@@ -10,3 +10,4 @@ pub mod Conserve
 pub mod Runs
 pub mod Wrong
 pub mod Second
+pub mod Said

@@ -16,3 +16,4 @@ pub mod Words
 pub mod Refusals
 pub mod LogRefusals
 pub mod Contracts
+pub mod Printed

@@ -11,3 +11,4 @@ pub mod Past
 pub mod Registers
 pub mod Reading
 pub mod Pins
+pub mod Said

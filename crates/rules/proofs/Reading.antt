@@ -54,7 +54,7 @@ elsewhereIn d = record {
 }
 
 -- "Depth is 32 in FIFO and STREAM, 1 in BYPASS"
-depth-is : (b : ℕ) → isReservedMode (modeOf b) ≡ false → depthIn depth (modeOf b) ≡ pick (eqb (b / 64) 0b00) 1 32
+pub depth-is : (b : ℕ) → isReservedMode (modeOf b) ≡ false → depthIn depth (modeOf b) ≡ pick (eqb (b / 64) 0b00) 1 32
 unfolding modeOf
 depth-is b = go (eqb (b / 64) 0b00) (eqb (b / 64) 0b01) (eqb (b / 64) 0b10)
   where

@@ -1,0 +1,44 @@
+-- 01's printed case, and logs on either side of what stops a replay: what the replay prints, by computation.
+-- Assumes nothing.
+use mathlib.Core.List.{List, map}
+use mathlib.Core.Path.{_≡_, refl}
+use Rattle.laws.specs.Bits.{bit}
+use Rattle.laws.specs.Bytes.{zeros, firstOrZeros, movedForward}
+use Rattle.codes.specs.Range.{rangeOf}
+use Rattle.codes.specs.Latch.{latchOf}
+use Rattle.codes.specs.Mode.{modeOf}
+use Rattle.codes.specs.Axes.{axesOf}
+use Rattle.table.specs.Rows.{listed, reservedAddresses, lineOf, refusedBits, rowOf, rowAt, resetBytes}
+use Rattle.registers.specs.Refused.{reservedCode, notModelled, answerAt, readAnswer}
+use Rattle.registers.specs.Deeds.{deedsOf, judgement}
+use Rattle.fifo.specs.Flat.{flatPushed, flatRead, bytesRead}
+use Rattle.fifo.specs.Store.{pushedIn, readIn, bytesIn, countIn, noFrames}
+use Rattle.channels.specs.Codes.{code}
+use Rattle.channels.specs.Channels.{byteAt, afterRead}
+use Rattle.slopes.specs.Previous.{slopesTo}
+use Rattle.slopes.specs.Point.{firstOver, pointOf}
+use Rattle.slopes.specs.Runs.{overRun, calmRun}
+use Rattle.motion.specs.Detector.{afterOver, afterCalm, afterSample, restarted}
+use Rattle.detectors.specs.Detectors.{detectorsSampled, detectorsWritten}
+use Rattle.interrupts.specs.Statuses.{statusesOf}
+use Rattle.interrupts.specs.Lines.{statusByte}
+use Rattle.device.specs.Device as device
+use Rattle.device.specs.Device.{firstBytes}
+use Rattle.device.specs.Show.{shownByte}
+use Rattle.device.specs.Read.{byteFrom, afterSingles, singleBytes, readOf}
+use Rattle.device.specs.Write.{written, writeOf}
+use Rattle.device.specs.Sample.{sampleAnswer, afterAccepted, sampleOf}
+use Rattle.interrupts.specs.Lines.{isActive}
+use Rattle.interrupts.specs.Pins.{pinLevel}
+use Rattle.device.specs.Show.{pinsOf}
+use Rattle.device.specs.Sample.{cycleOf}
+use Rattle.benchlog.specs.Format.{lengthOfKind}
+use Rattle.benchlog.specs.Reader.{entryOf, foundIn, readHead, readVersion}
+use Rattle.text.specs.Text.{lastDigits, decimal, line}
+use Rattle.playback.specs.Replay.{start, eventOf}
+use Rattle.playback.specs.Whole.{linesOf, printedFrom, printed}
+use Rattle.outcomes.specs.PrintedCases.{printedCases}
+
+pub printed-cases : map (λ c. printed (c .log)) printedCases ≡ map (λ c. c .text) printedCases
+unfolding bit zeros firstOrZeros movedForward rangeOf latchOf modeOf axesOf listed reservedAddresses lineOf refusedBits rowOf rowAt resetBytes reservedCode notModelled answerAt readAnswer deedsOf judgement flatPushed flatRead bytesRead pushedIn readIn bytesIn countIn noFrames code byteAt afterRead slopesTo firstOver pointOf overRun calmRun afterOver afterCalm afterSample restarted detectorsSampled detectorsWritten statusesOf statusByte device.powerUp firstBytes shownByte byteFrom afterSingles singleBytes readOf written writeOf sampleAnswer afterAccepted sampleOf cycleOf isActive pinLevel pinsOf lengthOfKind entryOf foundIn readHead readVersion lastDigits decimal line start eventOf linesOf printedFrom
+printed-cases = refl
