@@ -23,7 +23,7 @@ use Rattle.events.specs.Event.{Event, write, read, gives, answer, bytes}
 use Rattle.events.specs.Run.{after}
 use Rattle.events.specs.Bank.{bank, stored}
 use Rattle.events.proofs.Runs.{bank-is}
-use Rattle.rules.specs.Stored.{Bytes, byteBy}
+use Rattle.rules.specs.Stored.{ByteWrites, byteBy}
 use Rattle.rules.specs.Rules.{depthBy, dataStatus, fullStatus, watermarkStatus}
 use Rattle.rules.proofs.Proper.{proper}
 use Rattle.rules.proofs.Stored.{stored-is}
@@ -31,7 +31,7 @@ use Rattle.rules.proofs.Registers.{mode-known, answered}
 use Rattle.rules.proofs.Reading.{depth-is, elsewhereIn, reads-interrupts}
 
 -- ---- the watermark
-module _ (es : List Event) (b : Bytes es) where
+module _ (es : List Event) (b : ByteWrites es) where
   -- "The held frames never exceed the depth"; "Depth is 32 in FIFO and STREAM, 1 in BYPASS"
   pub few-deep : after es .fifo .count ≤ depthBy es
   few-deep =
