@@ -4,14 +4,18 @@ use mathlib.Core.Path.{refl}
 use Rattle.laws.specs.Outcome.{Settled}
 use Rattle.laws.proofs.Outcome.{settles, meet}
 use Rattle.playback.proofs.Replay.start as start
+use Rattle.playback.proofs.Replay.next_number as next-number
 use Rattle.playback.proofs.run as run
 use Rattle.outcomes.proofs.Plain.{plain}
 
 start-settled : Settled start.ended (λ M. start.clauses) (λ M. start.spec)
 start-settled = plain (λ κs a s s′. refl)
 
+next-number-settled : Settled next-number.ended (λ M. next-number.clauses) (λ M. next-number.spec)
+next-number-settled = plain (λ κs a s s′. refl)
+
 run-settled : Settled run.ended (λ M. run.clauses) (λ M. run.spec)
 run-settled = settles (λ κs a r r′ s s′ p q. (
-  λ i. record { next = meet (p .next) (q .next) i; replay = meet (p .replay) (q .replay) i; used = meet (p .used) (q .used) i; to = meet (p .text .place) (q .text .place) i },
+  λ i. record { next = meet (p .next) (q .next) i; refusal = meet (p .refusal) (q .refusal) i; replay = meet (p .replay) (q .replay) i; used = meet (p .used) (q .used) i; to = meet (p .text .place) (q .text .place) i },
   λ i. (tt, (tt, (tt, (meet (p .text .bytes) (q .text .bytes) i, tt)))),
 ))

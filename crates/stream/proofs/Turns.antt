@@ -16,7 +16,7 @@ use Rattle.playback.proofs.Stream.{never-go, waits, used-within}
 use Rattle.stream.specs.declared.State.{State}
 use Rattle.stream.specs.declared.How.{How}
 use Rattle.stream.specs.declared.How.the-variants.{On, Stopped, NotRead, NotWritten}
-use Rattle.stream.specs.Pump.{Within, unused, ranOver, afterRun, isOn, isWait, howAfter, Went, emptied, refilled, RefilledAs, TurnedAs}
+use Rattle.stream.specs.Pump.{Within, unused, ranOver, afterRun, atFront, isOn, isWait, howAfter, Went, emptied, refilled, RefilledAs, TurnedAs}
 use Rattle.stream.proofs.Places.{unused-after, length-unused}
 
 pub is-waiting : (n : Next) → isWait n ≡ true → n ≡ Wait
@@ -47,27 +47,27 @@ module _ (s : State) (buffer : List ℕ) (room : ℕ) {ran : Ran} {out out′ : 
   pub little-left : ran .next ≡ Wait → length (unused next buffer) < longestRecord
   little-left e = rw (unused-after s (ran .replay) (ran .used) buffer, is .used) (waits (s .replay) (unused s buffer) (s .last) room (sym (is .next) ∙ e) .1)
 
-  pub turned-on : isWait (ran .next) ≡ false → TurnedAs (howAfter (ran .next)) s buffer room next buffer
+  pub turned-on : isWait (ran .next) ≡ false → TurnedAs (howAfter (ran .next) (ran .refusal)) s buffer room next buffer
   turned-on = go (ran .next) refl
     where
-      go : (n : Next) → ran .next ≡ n → isWait n ≡ false → TurnedAs (howAfter n) s buffer room next buffer
+      go : (n : Next) → ran .next ≡ n → isWait n ≡ false → TurnedAs (howAfter n (ran .refusal)) s buffer room next buffer
       go Go e f = absurd (never-go (s .replay) (unused s buffer) (s .last) room (sym (is .next) ∙ e))
       go Wait e f = let z : _≡_ {A = ℕ} 0 1 = cc in absurd (omega arith)
       go Full e f = (emptied (sym (is .next) ∙ e) next-is refl, next-within)
-      go Stop e f = sym (is .next) ∙ e
+      go Stop e f = (sym (is .next) ∙ e, sym (is .refusal))
 
   pub turned-by-read : (how : How) (s′ : State) (buffer′ : List ℕ) → isWait (ran .next) ≡ true → RefilledAs how next buffer s′ buffer′ → TurnedAs how s buffer room s′ buffer′
   turned-by-read how s′ buffer′ w = go how (sym (is .next) ∙ is-waiting (ran .next) w)
     where
       go : (h : How) → ranOver s buffer room .next ≡ Wait → RefilledAs h next buffer s′ buffer′ → TurnedAs h s buffer room s′ buffer′
       go On e r = (refilled e (rw (sym next-is) (r .0)), r .1)
-      go Stopped e r = absurd r
-      go NotRead e r = e
+      go (Stopped refusal) e r = absurd r
+      go NotRead e r = (e, r ∙ ap (λ (t : State). atFront t buffer) next-is)
       go NotWritten e r = absurd r
 
 -- where the pump goes on, the places are within the buffer
 pub on-within : (how : How) (s : State) (buffer : List ℕ) (room : ℕ) (s′ : State) (buffer′ : List ℕ) → isOn how ≡ true → TurnedAs how s buffer room s′ buffer′ → Within s′ (length buffer)
 on-within On s buffer room s′ buffer′ e t = t .1
-on-within Stopped s buffer room s′ buffer′ e t = let z : _≡_ {A = ℕ} 0 1 = cc in absurd (omega arith)
+on-within (Stopped refusal) s buffer room s′ buffer′ e t = let z : _≡_ {A = ℕ} 0 1 = cc in absurd (omega arith)
 on-within NotRead s buffer room s′ buffer′ e t = let z : _≡_ {A = ℕ} 0 1 = cc in absurd (omega arith)
 on-within NotWritten s buffer room s′ buffer′ e t = let z : _≡_ {A = ℕ} 0 1 = cc in absurd (omega arith)

@@ -1,10 +1,11 @@
 -- How a log goes from its input through the replay to its output: what the pump does around its two calls, read and write.
-use Prim.Native.Nat.{ℕ, _+_, _≤_, _<_}
+use Prim.Native.Nat.{ℕ, _+_, _-_, _≤_, _<_}
 use mathlib.Core.Path.{_≡_}
 use mathlib.Core.Bool.{Bool, true, false}
 use mathlib.Core.List.{List, [], _∷_, _++_}
 use lib.ListN.{length}
 use lib.Dec.{eqb}
+use Rattle.laws.specs.Choice.{pick}
 use Rattle.laws.specs.Bytes.{between}
 use Rattle.playback.specs.Replay.{start, Turn, runOf}
 use Rattle.playback.specs.declared.Replay.{Replay}
@@ -17,7 +18,7 @@ use Rattle.stream.specs.declared.How.the-variants.{On, Stopped, NotRead,
 -- ---- between the calls
 -- before the first read
 abbrev pub pumpStart : State
-pumpStart = record { replay = start; from = 0; to = 0; last = false }
+pumpStart = record { replay = start; from = 0; to = 0; last = false; whole = 0 }
 
 -- the places lie within a buffer of so many bytes
 abbrev pub Within : State → ℕ → Type 0
@@ -31,17 +32,21 @@ unused s buffer = between (s .from) (s .to) buffer
 abbrev pub ranOver : State → List ℕ → ℕ → Turn
 ranOver s buffer room = runOf (s .replay) (unused s buffer) (s .last) room
 
--- after a run that came to this replay and used so many bytes
+-- the record before the one with this number: 0, where there is none
+abbrev pub recordBefore : ℕ → ℕ
+recordBefore number = number - 1
+
+-- after a run that came to this replay and used so many bytes, and whose text is written
 abbrev pub afterRun : State → Replay → ℕ → State
-afterRun s r used = record { replay = r; from = s .from + used; to = s .to; last = s .last }
+afterRun s r used = record { replay = r; from = s .from + used; to = s .to; last = s .last; whole = recordBefore (r .number) }
 
 -- with what is not used at the front of the buffer
 abbrev pub atFront : State → List ℕ → State
-atFront s buffer = record { replay = s .replay; from = 0; to = length (unused s buffer); last = s .last }
+atFront s buffer = record { replay = s .replay; from = 0; to = length (unused s buffer); last = s .last; whole = s .whole }
 
 -- after a read of so many bytes: of none, where the input has ended
 abbrev pub withRead : State → ℕ → State
-withRead s n = record { replay = s .replay; from = s .from; to = s .to + n; last = eqb n 0 }
+withRead s n = record { replay = s .replay; from = s .from; to = s .to + n; last = eqb n 0; whole = s .whole }
 
 -- ---- the calls
 -- a read gave part: it stands behind what was not used
@@ -63,32 +68,40 @@ isWait Wait = true
 isWait Full = false
 isWait Stop = false
 
--- behind a run that does not wait
-abbrev pub howAfter : Next → How
-howAfter Go = On
-howAfter Wait = On
-howAfter Full = On
-howAfter Stop = Stopped
+-- behind a run that does not wait, by why it ended and by the refusal
+abbrev pub howAfter : Next → ℕ → How
+howAfter Go refusal = On
+howAfter Wait refusal = On
+howAfter Full refusal = On
+howAfter Stop refusal = Stopped refusal
 
 abbrev pub isOn : How → Bool
 isOn On = true
-isOn Stopped = false
+isOn (Stopped refusal) = false
 isOn NotRead = false
 isOn NotWritten = false
 
 -- what reading more comes to
 abbrev pub RefilledAs : How → State → List ℕ → State → List ℕ → Type 0
 RefilledAs On s buffer s′ buffer′ = Refilled s buffer s′ buffer′ × Within s′ (length buffer)
-RefilledAs Stopped s buffer s′ buffer′ = ⊥
-RefilledAs NotRead s buffer s′ buffer′ = Unit {0}
+RefilledAs (Stopped refusal) s buffer s′ buffer′ = ⊥
+RefilledAs NotRead s buffer s′ buffer′ = s′ ≡ atFront s buffer
 RefilledAs NotWritten s buffer s′ buffer′ = ⊥
 
--- a turn, over a buffer and room for so much text: it stops exactly where its run does, unless a call fails
+-- a turn, over a buffer and room for so much text: it stops exactly where its run does, unless a call fails. Where the text is not
+-- written, the state is the one before it
 abbrev pub TurnedAs : How → State → List ℕ → ℕ → State → List ℕ → Type 0
 TurnedAs On s buffer room s′ buffer′ = Went s buffer room s′ buffer′ × Within s′ (length buffer)
-TurnedAs Stopped s buffer room s′ buffer′ = ranOver s buffer room .next ≡ Stop
-TurnedAs NotRead s buffer room s′ buffer′ = ranOver s buffer room .next ≡ Wait
-TurnedAs NotWritten s buffer room s′ buffer′ = Unit {0}
+TurnedAs (Stopped refusal) s buffer room s′ buffer′ = (ranOver s buffer room .next ≡ Stop) × (ranOver s buffer room .refusal ≡ refusal)
+TurnedAs NotRead s buffer room s′ buffer′ = (ranOver s buffer room .next ≡ Wait) × (s′ ≡ atFront (afterRun s (ranOver s buffer room .replay) (ranOver s buffer room .at)) buffer)
+TurnedAs NotWritten s buffer room s′ buffer′ = s′ ≡ s
+
+-- the status of the program: 0, or 3 of a log that was refused; 1 where the input or the output failed, or more came than turns can do
+abbrev pub statusOf : How → ℕ
+statusOf On = 1
+statusOf (Stopped refusal) = pick (eqb refusal 0) 0 3
+statusOf NotRead = 1
+statusOf NotWritten = 1
 
 -- ---- turns in a row
 -- what the reads give: one part after the other, of which none is empty, and then nothing

@@ -7,28 +7,36 @@ ghost use mir.Syntax.{w64};
 ghost use mir.Val.{Fits};
 ghost use Rattle.laws.specs.Bytes.{movedForward};
 ghost use Rattle.playback.specs.Replay.{Running};
-ghost use Rattle.stream.specs.Pump.{pumpStart, Within, unused, ranOver, afterRun, atFront, withRead, isOn, isWait, howAfter, RefilledAs, TurnedAs};
+ghost use Rattle.stream.specs.Pump.{pumpStart, Within, unused, ranOver, afterRun, atFront, withRead, recordBefore, isOn, isWait, howAfter, RefilledAs, TurnedAs, statusOf};
 use laws::move_forward;
 use playback::Next;
 use playback::Ran;
 use playback::Replay;
 use playback::run;
 
-// The replay; the bytes of the input that are there and not used, from one place of the buffer up to another; and whether the input
-// has ended.
+// The replay; the bytes of the input that are there and not used, from one place of the buffer up to another; whether the input has
+// ended; and the last record of the text that is written.
 struct State {
     replay: Replay,
     from: usize,
     to: usize,
     last: bool,
+    whole: u64,
 }
 
-// What a turn of the pump comes to: another turn, the end of the replay, or a call that failed.
-enum How {
+// What a turn of the pump comes to: another turn; the end of the replay, by the refusal with this number or, where it is 0, at the
+// end of the log; or a call that failed.
+pub enum How {
     On,
-    Stopped,
+    Stopped(u8),
     NotRead,
     NotWritten,
+}
+
+// How a pump came to its end, and the last record of the last text that was written whole: 0, where there is none.
+pub struct Ended {
+    pub how: How,
+    pub whole: u64,
 }
 
 // That, and the state behind the turn.
@@ -52,6 +60,7 @@ fn begin() -> State
         from: 0,
         to: 0,
         last: false,
+        whole: 0,
     }
 }
 
@@ -66,17 +75,26 @@ fn run_over(state: State, buffer: &[u8], text: &mut [u8]) -> Ran
     run(replay, &buffer[from..to], state.last, text)
 }
 
-// The state behind a run.
+// The record before the one with this number: 0, where there is none.
+fn record_before(number: u64) -> u64
+    ensures { λ r. ⌜ r ≡ recordBefore number ⌝ }
+{
+    if number == 0 { 0 } else { number - 1 }
+}
+
+// The state behind a run whose text is written.
 fn after_run(state: State, ran: Ran) -> State
     requires { ⌜ Fits w64 (state .from + ran .used) ⌝ }
     ensures { λ r. ⌜ r ≡ afterRun state (ran .replay) (ran .used) ⌝ }
 {
     let replay = ran.replay;
+    let whole = record_before(replay.next_number());
     State {
         replay,
         from: state.from + ran.used,
         to: state.to,
         last: state.last,
+        whole,
     }
 }
 
@@ -91,6 +109,7 @@ fn move_to_front(state: State, buffer: &mut [u8]) -> State
         from: 0,
         to,
         last: state.last,
+        whole: state.whole,
     }
 }
 
@@ -105,6 +124,7 @@ fn after_read(state: State, n: usize) -> State
         from: state.from,
         to: state.to + n,
         last: n == 0,
+        whole: state.whole,
     }
 }
 
@@ -153,14 +173,14 @@ fn waits(next: Next) -> bool
 }
 
 // What a turn comes to behind a run that does not wait. No run ends with Go.
-fn how_after(next: Next) -> How
-    ensures { λ r. ⌜ r ≡ howAfter next ⌝ }
+fn how_after(next: Next, refusal: u8) -> How
+    ensures { λ r. ⌜ r ≡ howAfter next refusal ⌝ }
 {
     match next {
         Next::Go => How::On,
         Next::Wait => How::On,
         Next::Full => How::On,
-        Next::Stop => How::Stopped,
+        Next::Stop => How::Stopped(refusal),
     }
 }
 
@@ -179,7 +199,7 @@ fn turn(input: i32, output: i32, state: State, buffer: &mut [u8], text: &mut [u8
     if waits(why) {
         return refill(input, next, buffer);
     }
-    came_to(how_after(why), next)
+    came_to(how_after(why, ran.refusal), next)
 }
 
 fn goes_on(how: How) -> bool
@@ -187,14 +207,14 @@ fn goes_on(how: How) -> bool
 {
     match how {
         How::On => true,
-        How::Stopped => false,
+        How::Stopped(_) => false,
         How::NotRead => false,
         How::NotWritten => false,
     }
 }
 
 // The replay of the log at one descriptor, printed to another.
-pub fn pump(input: i32, output: i32) {
+pub fn pump(input: i32, output: i32) -> Ended {
     let mut buffer = io::large_buffer();
     let mut text = io::large_buffer();
     let mut state = begin();
@@ -205,8 +225,27 @@ pub fn pump(input: i32, output: i32) {
         state = next;
         let how = turned.how;
         if !goes_on(how) {
-            return;
+            return Ended {
+                how,
+                whole: state.whole,
+            };
         }
         turns -= 1;
+    }
+    Ended {
+        how: How::On,
+        whole: state.whole,
+    }
+}
+
+// The status of a program that came to its end so: 0 done, 1 input or output failed, 3 a log that was refused.
+pub fn status_of(how: How) -> u8
+    ensures { λ r. ⌜ r ≡ statusOf how ⌝ }
+{
+    match how {
+        How::On => 1,
+        How::Stopped(refusal) => if refusal == 0 { 0 } else { 3 },
+        How::NotRead => 1,
+        How::NotWritten => 1,
     }
 }

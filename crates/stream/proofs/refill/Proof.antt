@@ -14,6 +14,9 @@ behind c =
     let start = c .before .before .before in
     room-behind (start .args .state) (now (start .args .buffer)) (c .move-to-front .ensures .0) (c .move-to-front .ensures .1) (start .pre)
 
+returns : tie.Need-returns
+returns c = rw (c .came-to .ensures .0) (c .came-to .ensures .1 ∙ c .before .before .before .before .before .before .before .before .move-to-front .ensures .0)
+
 returns-2 : tie.Need-returns-2
 returns-2 c =
     let read = c .before .before .before .before .before .read-into in
@@ -33,7 +36,7 @@ refill-spec =
     (λ c κs. simp (length-take, length-drop) (omega (arith, behind (c .before .before .before))))
     (λ c κs. tt)
     (λ c. search needs)
-    (λ c. rw (c .came-to .ensures .0) tt)
+    returns
     (λ c κs. search needs)
     (λ c κs. tt)
     (λ c. search needs)

@@ -58,7 +58,7 @@ turn-spec =
     (λ c κs. tt)
     (λ c. search needs)
     (λ c. search needs)
-    (λ c. rw (c .came-to .ensures .0) tt)
+    (λ c. rw (c .came-to .ensures .0) (c .came-to .ensures .1))
     after-run-requires
     (λ c κs. tt)
     refill-requires
