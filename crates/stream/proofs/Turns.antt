@@ -8,7 +8,9 @@ use native.Mathlib.Omega.{arith}
 use lib.ListN.{length, take, drop}
 use lib.Seq.{length-take-le}
 use Rattle.text.proofs.Texts.{pushed-length}
-use Rattle.playback.specs.Replay.{longestRecord, Running, runOf}
+use Rattle.benchlog.specs.Format.{lengthField, longestBody}
+use Rattle.benchlog.proofs.Local.{few-undecided}
+use Rattle.playback.specs.Replay.{Running, runOf}
 use Rattle.playback.specs.declared.Next.{Next}
 use Rattle.playback.specs.declared.Next.the-variants.{Go, Wait, Full, Stop}
 use Rattle.playback.specs.declared.Ran.{Ran}
@@ -44,8 +46,8 @@ module _ (s : State) (buffer : List ℕ) (room : ℕ) {ran : Ran} {out out′ : 
   text-there = sym (length-take-le (ran .to) out′ (omega (arith, is .text .place, is .text .room, pushed-length (is .text))))
 
   -- where it waits, less than a record is left
-  pub little-left : ran .next ≡ Wait → length (unused next buffer) < longestRecord
-  little-left e = rw (unused-after s (ran .replay) (ran .used) buffer, is .used) (waits (s .replay) (unused s buffer) (s .last) room (sym (is .next) ∙ e) .1)
+  pub little-left : ran .next ≡ Wait → length (unused next buffer) < lengthField + longestBody
+  little-left e = rw (unused-after s (ran .replay) (ran .used) buffer, is .used) (few-undecided _ (waits (s .replay) (unused s buffer) (s .last) room (sym (is .next) ∙ e) .1))
 
   pub turned-on : isWait (ran .next) ≡ false → TurnedAs (howAfter (ran .next) (ran .refusal)) s buffer room next buffer
   turned-on = go (ran .next) refl
