@@ -7,7 +7,7 @@
 #include <unistd.h>
 
 int main(int argc, char **argv) {
-    FILE *times = argc > 2 ? fopen(argv[1], "a") : NULL;
+    FILE *times = argc > 2 ? fopen(argv[1], "ae") : NULL;
     if (times == NULL) return fprintf(stderr, "use: once FILE COMMAND..\n"), 2;
     pid_t child = fork();
     if (child == 0) {

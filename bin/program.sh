@@ -24,7 +24,7 @@ crates_of() { # NAME
 
 # What a program is made of and what it is: its sources, the kit, and its own bytes.
 stamp_now() {
-    (cd "$top" && { grep -v '^#' crates.txt; for crate in $(crates_of "$name"); do find "crates/$crate" -type f | LC_ALL=C sort | xargs cat; done; } | cksum) | sed 's/^/sources /'
+    (cd "$top" && { grep -v '^#' crates.txt; for crate in $(crates_of "$name"); do find "crates/$crate" -type f -not -path '*/must-fail/*' | LC_ALL=C sort | xargs cat; done; } | cksum) | sed 's/^/sources /'
     echo "program $(cksum <"$program" 2>/dev/null)"
     [ -z "$kit" ] || { echo "kit $(cat "$kit/KIT-ID")"; echo "kit at $kit"; }
 }
