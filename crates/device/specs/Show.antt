@@ -4,8 +4,10 @@ use mathlib.Core.List.{List}
 use lib.Dec.{eqb, ltb}
 use lib.ListN.{getD}
 use Rattle.laws.specs.Choice.{pick}
-use Rattle.codes.specs.Addresses.{controlAt}
+use Rattle.codes.specs.Addresses.{rangeAt, controlAt}
 use Rattle.codes.specs.Mode.{modeOf}
+use Rattle.codes.specs.Range.{rangeOf}
+use Rattle.codes.specs.declared.Range.{Range}
 use Rattle.fifo.specs.Setting.{depthIn}
 use Rattle.fifo.specs.Store.{countAt, statusAt}
 use Rattle.detectors.specs.Detectors.{motionStatus, motionMarks}
@@ -51,3 +53,11 @@ shownByte s regs a =
 -- both pin levels
 unfoldable pub pinsOf : Device → Pins
 pinsOf d = pinsAt (statusesIn (d .regs) (insideOf d)) (d .regs)
+
+-- how many frames the FIFO holds: the frame count of 0x0E
+abbrev pub heldIn : Device → ℕ
+heldIn d = countAt depth (d .fifo)
+
+-- the measuring range, by the byte of 0x0F
+abbrev pub rangeIn : Device → Range
+rangeIn d = rangeOf (getD (d .regs) rangeAt 0)

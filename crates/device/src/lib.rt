@@ -1,8 +1,8 @@
-// The device of 01: its record, five events and one question. Each event takes the record by value and hands it back.
+// The device of 01: its record, five events and three questions. Each event takes the record by value and hands it back.
 ghost use mathlib.Core.Path.{_≡_};
 ghost use lib.ListN.{length};
 ghost use Rattle.device.specs.Device.{powerUp};
-ghost use Rattle.device.specs.Show.{pinsOf};
+ghost use Rattle.device.specs.Show.{pinsOf, heldIn, rangeIn};
 ghost use Rattle.device.specs.Write.{writeOf};
 ghost use Rattle.device.specs.Read.{readOf, bufferAfter};
 ghost use Rattle.device.specs.Sample.{sampleOf, cycleOf};
@@ -10,9 +10,12 @@ use channels::Channels;
 use channels::codes_of;
 use codes::CONTROL_AT;
 use codes::FRAMES_AT;
+use codes::RANGE_AT;
+use codes::Range;
 use codes::SHADOW_AT;
 use codes::axes_of;
 use codes::mode_of;
+use codes::range_of;
 use detectors::Detectors;
 use fifo::Fifo;
 use fifo::ROOM;
@@ -194,5 +197,21 @@ impl Device {
             int1: pin_level(Pin::Int1, statuses, &regs),
             int2: pin_level(Pin::Int2, statuses, &regs),
         }
+    }
+
+    // How many frames the FIFO holds.
+    pub fn held(self) -> usize
+        ensures { λ r. ⌜ r ≡ heldIn self ⌝ }
+    {
+        let fifo = self.fifo;
+        fifo.count(Device::DEPTH)
+    }
+
+    // The measuring range.
+    pub fn range(self) -> Range
+        ensures { λ r. ⌜ r ≡ rangeIn self ⌝ }
+    {
+        let regs = self.regs;
+        range_of(regs[RANGE_AT])
     }
 }

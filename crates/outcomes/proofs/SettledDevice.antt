@@ -9,6 +9,8 @@ use Rattle.device.proofs.Device.read as read
 use Rattle.device.proofs.Device.sample as sample
 use Rattle.device.proofs.Device.start_cycle as start-cycle
 use Rattle.device.proofs.Device.pins as pins
+use Rattle.device.proofs.Device.held as held
+use Rattle.device.proofs.Device.range as range
 use Rattle.outcomes.proofs.Plain.{plain}
 
 power-up-settled : Settled power-up.ended (λ M. power-up.clauses) (λ M. power-up.spec)
@@ -28,3 +30,9 @@ start-cycle-settled = plain (λ κs a s s′. refl)
 
 pins-settled : Settled pins.ended (λ M. pins.clauses) (λ M. pins.spec)
 pins-settled = plain (λ κs a s s′. refl)
+
+held-settled : Settled held.ended (λ M. held.clauses) (λ M. held.spec)
+held-settled = plain (λ κs a s s′. refl)
+
+range-settled : Settled range.ended (λ M. range.clauses) (λ M. range.spec)
+range-settled = plain (λ κs a s s′. refl)
