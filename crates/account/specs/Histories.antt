@@ -1,0 +1,89 @@
+-- The account, from the events alone: what the histories say of a log. In a history the latest event stands first.
+use Prim.Native.Nat.{ℕ, suc, _+_, _-_}
+use mathlib.Core.Bool.{Bool, true, false, not}
+use mathlib.Core.List.{List, [], _∷_, _++_}
+use mathlib.Core.Path.{_≡_}
+use lib.Dec.{eqb}
+use lib.ListN.{length}
+use Rattle.laws.specs.Bits.{worth}
+use Rattle.laws.specs.Choice.{pick}
+use Rattle.codes.specs.Addresses.{rangeAt}
+use Rattle.codes.specs.Range.{rangeOf, isReservedRange}
+use Rattle.registers.specs.Answers.{accepted}
+use Rattle.registers.specs.Deeds.{isReset}
+use Rattle.events.specs.Bank.{stored}
+use Rattle.events.specs.Event.{Event, powerUp, write, read, sample, cycle, happens}
+use Rattle.events.specs.Run.{after}
+use Rattle.history.specs.History.{accelerometer, readsOut}
+use Rattle.history.specs.Whole.{heldNow, totals}
+use Rattle.account.specs.declared.Account.{Account}
+use Rattle.account.specs.declared.Counts.{Counts}
+use Rattle.account.specs.declared.Doubt.{Doubt}
+use Rattle.account.specs.declared.Doubt.the-variants.{No, By}
+use Rattle.account.specs.declared.Why.{Why}
+use Rattle.account.specs.declared.Why.the-variants as why
+use Rattle.account.specs.Account.{ends}
+
+-- how many events the device refused
+unfoldable pub refusals : List Event → ℕ
+refusals [] = 0
+refusals (e ∷ es) = worth 1 (not (accepted (happens (after es) e .answer))) + refusals es
+
+-- the counts since power-up: those of the samples are demand 3's, over clears
+abbrev pub countsOf : List Event → Counts
+countsOf es =
+    let n = totals accelerometer es in
+    record { accepted = n .accepted; taken = n .taken; lost = n .lost; cleared = n .clearedAway; refused = refusals es }
+
+-- the range is in doubt while the last write to 0x0F since power-up or soft reset was a refused one, of a code that the sheet does not
+-- define: the number of that event, and its byte
+unfoldable pub doubtOf : List Event → Doubt
+doubtOf [] = No
+doubtOf (powerUp ∷ es) = No
+doubtOf (write a byte ∷ es) =
+    pick (isReset a byte) No (pick (eqb a rangeAt) (pick (isReservedRange (rangeOf byte)) (By (suc (length es)) byte) No) (doubtOf es))
+doubtOf (read a n ∷ es) = doubtOf es
+doubtOf (sample x y z temperature ∷ es) = doubtOf es
+doubtOf (cycle ∷ es) = doubtOf es
+
+-- what is known after a history: the range is by the byte that 0x0F stores, and the frames held are the ledger's
+abbrev pub accountOf : List Event → Account
+accountOf es =
+    record { number = length es; counts = countsOf es; doubt = doubtOf es; range = rangeOf (stored es rangeAt); held = heldNow accelerometer es }
+
+-- why a stretch ends with an event: "a readout: an accepted read at 0x3F; a write to 0x0F, accepted or refused; a soft reset"
+unfoldable pub whyAt : Event → Why
+whyAt powerUp = why.Reset
+whyAt (write a byte) =
+    pick (isReset a byte) why.Reset (pick (eqb a rangeAt) (pick (isReservedRange (rangeOf byte)) why.Refused why.Range) why.Nothing)
+whyAt (read a n) = pick (readsOut a n) why.Readout why.Nothing
+whyAt (sample x y z temperature) = why.Nothing
+whyAt cycle = why.Nothing
+
+-- the history at the end of the last stretch that has ended: that of power-up where none has
+unfoldable pub lastEnd : List Event → List Event
+lastEnd [] = []
+lastEnd (e ∷ es) = pick (ends (whyAt e)) (e ∷ es) (lastEnd es)
+
+-- ---- stretches
+-- a stretch, by the histories at its beginning and at its end, and why it ended
+pub record Stretch : Type 0 where
+  pub from : List Event
+  pub to : List Event
+  pub why : Why
+
+-- those that have ended, the latest first
+unfoldable pub stretches : List Event → List Stretch
+stretches [] = []
+stretches (e ∷ es) = pick (ends (whyAt e)) (record { from = lastEnd es; to = e ∷ es; why = whyAt e } ∷ stretches es) (stretches es)
+
+-- each begins where the one before it ended, and the first at power-up
+abbrev pub Adjacent : List Stretch → Type 0
+Adjacent [] = Unit {0}
+Adjacent (s ∷ []) = s .from ≡ []
+Adjacent (s ∷ r ∷ ss) = (s .from ≡ r .to) × Adjacent (r ∷ ss)
+
+-- what a stretch conserves, between the counts at its two ends: held before + accepted = taken + lost + cleared + held after
+pub record Conserved (from to : Account) : Type 0 where
+  pub whole : from .held + (to .counts .accepted - from .counts .accepted)
+      ≡ (to .counts .taken - from .counts .taken) + (to .counts .lost - from .counts .lost) + (to .counts .cleared - from .counts .cleared) + to .held
