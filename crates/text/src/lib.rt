@@ -1,4 +1,4 @@
-// What the replay prints, written into a lent buffer: a line for a record, and the last line.
+// What the programs print, written into a lent buffer: numbers and words, and the replay's lines, one for a record and the last.
 ghost use mathlib.Core.Path.{_≡_};
 ghost use mathlib.Core.List.{[], _∷_};
 ghost use Prim.Native.Nat.{_+_, _*_, _≤_, _<_};
@@ -125,6 +125,19 @@ fn put_behind_space(out: &mut [u8], at: usize, bytes: &[u8]) -> usize
     put_hex(out, to, bytes)
 }
 
+// Bytes as they are, for which there is room.
+fn copy_word(out: &mut [u8], at: usize, word: &[u8]) -> usize
+    requires { ⌜ at + length (now word) ≤ length (now out) ⌝ }
+    ensures { λ r. ⌜ Pushed (now (out .entry)) at (now (word .entry)) (now (out .exit)) r ⌝ }
+{
+    let mut i: usize = 0;
+    while i < word.len() {
+        out[at + i] = word[i];
+        i += 1;
+    }
+    at + i
+}
+
 // A record's line, for which there is room.
 fn write_line(out: &mut [u8], at: usize, number: u64, answer: u8, bytes: &[u8]) -> usize
     requires { ⌜ at + longestLine + 2 * length (now bytes) ≤ length (now out) ⌝ }
@@ -185,4 +198,34 @@ pub fn put_pins(out: &mut [u8], at: usize, pins: Pins) -> usize
         return at;
     }
     write_pins(out, at, pins)
+}
+
+// A number in decimal from a place on, in the same way.
+pub fn put_number(out: &mut [u8], at: usize, n: u64) -> usize
+    ensures { λ r. ⌜ (r ≡ placeAfter mostDigits (now (out .entry)) at (decimal n)) × (now (out .exit) ≡ leftIn mostDigits (now (out .entry)) at (decimal n)) ⌝ }
+{
+    if lacks_room(out.len(), at, MOST_DIGITS, 0) {
+        return at;
+    }
+    put_decimal(out, at, n)
+}
+
+// A byte in capital hex, in the same way.
+pub fn put_in_hex(out: &mut [u8], at: usize, byte: u8) -> usize
+    ensures { λ r. ⌜ (r ≡ placeAfter 2 (now (out .entry)) at (hex (byte ∷ []))) × (now (out .exit) ≡ leftIn 2 (now (out .entry)) at (hex (byte ∷ []))) ⌝ }
+{
+    if lacks_room(out.len(), at, 2, 0) {
+        return at;
+    }
+    put_hex_byte(out, at, byte)
+}
+
+// Bytes as they are, in the same way.
+pub fn put_word(out: &mut [u8], at: usize, word: &[u8]) -> usize
+    ensures { λ r. ⌜ (r ≡ placeAfter (length (now (word .entry))) (now (out .entry)) at (now (word .entry))) × (now (out .exit) ≡ leftIn (length (now (word .entry))) (now (out .entry)) at (now (word .entry))) ⌝ }
+{
+    if lacks_room(out.len(), at, word.len(), 0) {
+        return at;
+    }
+    copy_word(out, at, word)
 }
