@@ -35,8 +35,9 @@ use Rattle.device.specs.Sample.{cycleOf}
 use Rattle.benchlog.specs.Format.{lengthOfKind}
 use Rattle.benchlog.specs.Reader.{entryOf, foundIn, readHead, readVersion}
 use Rattle.text.specs.Text.{lastDigits, decimal, line}
-use Rattle.playback.specs.Replay.{start, eventOf}
-use Rattle.playback.specs.Whole.{linesOf, printedFrom, printed}
+use Rattle.follow.specs.Whole.{linesOf, printedFrom}
+use Rattle.entries.specs.Entries.{eventOf}
+use Rattle.playback.specs.Replay.{start, printed}
 use Rattle.outcomes.specs.PrintedCases.{printedCases}
 
 pub printed-cases : map (λ c. printed (c .log)) printedCases ≡ map (λ c. c .text) printedCases

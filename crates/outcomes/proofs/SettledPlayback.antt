@@ -16,6 +16,6 @@ next-number-settled = plain (λ κs a s s′. refl)
 
 run-settled : Settled run.ended (λ M. run.clauses) (λ M. run.spec)
 run-settled = settles (λ κs a r r′ s s′ p q. (
-  λ i. record { next = meet (p .next) (q .next) i; refusal = meet (p .refusal) (q .refusal) i; replay = meet (p .replay) (q .replay) i; used = meet (p .used) (q .used) i; to = meet (p .text .place) (q .text .place) i },
-  λ i. (tt, (tt, (tt, (meet (p .text .bytes) (q .text .bytes) i, tt)))),
+  λ i. record { next = meet (p .next-is) (q .next-is) i; refusal = meet (p .refusal-is) (q .refusal-is) i; replay = meet (p .state-is) (q .state-is) i; used = meet (p .used-is) (q .used-is) i; to = meet (p .text-is .place) (q .text-is .place) i },
+  λ i. (tt, (tt, (tt, (meet (p .text-is .bytes) (q .text-is .bytes) i, tt)))),
 ))

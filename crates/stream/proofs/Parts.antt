@@ -9,11 +9,12 @@ use native.Mathlib.Omega.{arith}
 use borrow.Author.Tests.{ne-eqb}
 use lib.Dec.{eqb}
 use lib.ListN.{length, drop}
-use Rattle.playback.specs.Replay.{start, runOf}
+use Rattle.follow.specs.Follow.{runOf}
+use Rattle.follow.specs.declared.Next.the-variants.{Wait, Full, Stop}
+use Rattle.follow.specs.Whole.{Pumped, stopped, emptied, filled, ended, joined}
+use Rattle.follow.proofs.Stream.{waits, any-division}
+use Rattle.playback.specs.Replay.{start, replayer, replays, printed}
 use Rattle.playback.specs.declared.Replay.{Replay}
-use Rattle.playback.specs.declared.Next.the-variants.{Wait, Full, Stop}
-use Rattle.playback.specs.Whole.{Pumped, stopped, emptied, filled, ended, printed, joined}
-use Rattle.playback.proofs.Stream.{waits, any-division}
 use Rattle.stream.specs.declared.State.{State}
 use Rattle.stream.specs.Pump as pump
 use Rattle.stream.specs.Pump.{pumpStart, unused, ranOver, afterRun, atFront, withRead, Refilled, NoneEmpty, nextPart, laterParts, Turns}
@@ -21,45 +22,45 @@ use Rattle.stream.proofs.Places.{unused-after}
 
 -- a pump with the replay, the bytes at hand and the mark of the end of a state
 abbrev PumpedAt : State → List ℕ → List (List ℕ) → List ℕ → Type 0
-PumpedAt s buffer parts text = Pumped (s .replay) (unused s buffer) parts (s .last) text
+PumpedAt s buffer parts text = Pumped replayer (s .replay) (unused s buffer) parts (s .last) text
 
 -- the two steps of a pump that waits, where the end of the input is not known
 module _ (r : Replay) (bytes : List ℕ) (room : ℕ) {text : List ℕ} where
-  part-step : (last : Bool) (part : List ℕ) (parts : List (List ℕ)) → last ≡ false → runOf r bytes last room .next ≡ Wait
-      → Pumped (runOf r bytes last room .replay) (drop (runOf r bytes last room .at) bytes ++ part) parts false text
-      → Pumped r bytes (part ∷ parts) last (runOf r bytes last room .text ++ text)
+  part-step : (last : Bool) (part : List ℕ) (parts : List (List ℕ)) → last ≡ false → runOf replayer r bytes last room .next ≡ Wait
+      → Pumped replayer (runOf replayer r bytes last room .state) (drop (runOf replayer r bytes last room .at) bytes ++ part) parts false text
+      → Pumped replayer r bytes (part ∷ parts) last (runOf replayer r bytes last room .text ++ text)
   part-step true part parts q e p = let z : _≡_ {A = ℕ} 0 1 = cc in absurd (omega arith)
   part-step false part parts q e p = filled room e p
 
-  end-step : (last : Bool) → last ≡ false → runOf r bytes last room .next ≡ Wait
-      → Pumped (runOf r bytes last room .replay) (drop (runOf r bytes last room .at) bytes ++ []) [] true text → Pumped r bytes [] last (runOf r bytes last room .text ++ text)
+  end-step : (last : Bool) → last ≡ false → runOf replayer r bytes last room .next ≡ Wait
+      → Pumped replayer (runOf replayer r bytes last room .state) (drop (runOf replayer r bytes last room .at) bytes ++ []) [] true text → Pumped replayer r bytes [] last (runOf replayer r bytes last room .text ++ text)
   end-step true q e p = let z : _≡_ {A = ℕ} 0 1 = cc in absurd (omega arith)
   end-step false q e p = ended room e (rw append-nil at p)
 
 -- a read, of the next part or of nothing
 module _ (s : State) (buffer : List ℕ) (room : ℕ) {s′ : State} {buffer′ : List ℕ} (e : ranOver s buffer room .next ≡ Wait)
-    (r : Refilled (afterRun s (ranOver s buffer room .replay) (ranOver s buffer room .at)) buffer s′ buffer′) where
+    (r : Refilled (afterRun s (ranOver s buffer room .state) (ranOver s buffer room .at)) buffer s′ buffer′) where
   bytes-are : unused s′ buffer′ ≡ drop (ranOver s buffer room .at) (unused s buffer) ++ r .part
-  bytes-are = r .bytes ∙ rw (unused-after s (ranOver s buffer room .replay) (ranOver s buffer room .at) buffer)
+  bytes-are = r .bytes ∙ rw (unused-after s (ranOver s buffer room .state) (ranOver s buffer room .at) buffer)
 
   -- what the next run sees
   sees : (part : List ℕ) (last : Bool) {parts : List (List ℕ)} {text : List ℕ} → r .part ≡ part → eqb (length part) 0 ≡ last → PumpedAt s′ buffer′ parts text
-      → Pumped (ranOver s buffer room .replay) (drop (ranOver s buffer room .at) (unused s buffer) ++ part) parts last text
+      → Pumped replayer (ranOver s buffer room .state) (drop (ranOver s buffer room .at) (unused s buffer) ++ part) parts last text
   sees part last {parts} {text} p q later =
-      let replay-is : s′ .replay ≡ ranOver s buffer room .replay = ap (λ (t : State). t .replay) (r .state) in
+      let replay-is : s′ .replay ≡ ranOver s buffer room .state = ap (λ (t : State). t .replay) (r .state) in
       let last-is : s′ .last ≡ last = ap (λ (t : State). t .last) (r .state) ∙ ap (λ (t : List ℕ). eqb (length t) 0) p ∙ q in
       rw (bytes-are, p, replay-is, last-is) at later
 
   read-step : (parts : List (List ℕ)) {text : List ℕ} → NoneEmpty parts → r .part ≡ nextPart parts → PumpedAt s′ buffer′ (laterParts parts) text
       → PumpedAt s buffer parts (ranOver s buffer room .text ++ text)
-  read-step [] some p later = end-step (s .replay) (unused s buffer) room (s .last) (waits (s .replay) (unused s buffer) (s .last) room e .0) e (sees [] true p refl later)
+  read-step [] some p later = end-step (s .replay) (unused s buffer) room (s .last) (waits replayer replays (s .replay) (unused s buffer) (s .last) room e .0) e (sees [] true p refl later)
   read-step (part ∷ parts) some p later =
-      part-step (s .replay) (unused s buffer) room (s .last) part parts (waits (s .replay) (unused s buffer) (s .last) room e .0) e (sees part false p (ne-eqb (length part) 0 (λ z. omega (arith, some .0))) later)
+      part-step (s .replay) (unused s buffer) room (s .last) part parts (waits replayer replays (s .replay) (unused s buffer) (s .last) room e .0) e (sees part false p (ne-eqb (length part) 0 (λ z. omega (arith, some .0))) later)
 
 -- each turn is a step of the pump
 pub turns-pumped : {s : State} {buffer : List ℕ} {parts : List (List ℕ)} {text : List ℕ} → NoneEmpty parts → Turns s buffer parts text → PumpedAt s buffer parts text
 turns-pumped some (pump.stopped room e) = stopped room e
-turns-pumped {s} {buffer} some (pump.emptied room e t) = emptied room e (rw (unused-after s (ranOver s buffer room .replay) (ranOver s buffer room .at) buffer) at (turns-pumped some t))
+turns-pumped {s} {buffer} some (pump.emptied room e t) = emptied room e (rw (unused-after s (ranOver s buffer room .state) (ranOver s buffer room .at) buffer) at (turns-pumped some t))
 turns-pumped {s} {buffer} {parts} some (pump.refilled room e r p t) = read-step s buffer room e r parts some p (turns-pumped (rest-some parts some) t)
   where
     rest-some : (ps : List (List ℕ)) → NoneEmpty ps → NoneEmpty (laterParts ps)
@@ -69,4 +70,4 @@ turns-pumped {s} {buffer} {parts} some (pump.refilled room e r p t) = read-step 
 -- what the program prints of a log that comes in any parts
 pub pump-prints : (parts : List (List ℕ)) {buffer text : List ℕ} → NoneEmpty parts → Turns pumpStart buffer parts text → text ≡ printed (joined parts)
 unfolding start unused
-pump-prints parts {buffer} some t = any-division parts (turns-pumped some t)
+pump-prints parts {buffer} some t = any-division replayer replays start parts (turns-pumped some t)

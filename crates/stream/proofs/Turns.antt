@@ -10,11 +10,12 @@ use lib.Seq.{length-take-le}
 use Rattle.text.proofs.Texts.{pushed-length}
 use Rattle.benchlog.specs.Format.{lengthField, longestBody}
 use Rattle.benchlog.proofs.Local.{few-undecided}
-use Rattle.playback.specs.Replay.{Running, runOf}
-use Rattle.playback.specs.declared.Next.{Next}
-use Rattle.playback.specs.declared.Next.the-variants.{Go, Wait, Full, Stop}
+use Rattle.follow.specs.Follow.{Running, runOf}
+use Rattle.follow.specs.declared.Next.{Next}
+use Rattle.follow.specs.declared.Next.the-variants.{Go, Wait, Full, Stop}
+use Rattle.follow.proofs.Stream.{never-go, waits, used-within}
+use Rattle.playback.specs.Replay.{replayer, replays}
 use Rattle.playback.specs.declared.Ran.{Ran}
-use Rattle.playback.proofs.Stream.{never-go, waits, used-within}
 use Rattle.stream.specs.declared.State.{State}
 use Rattle.stream.specs.declared.How.{How}
 use Rattle.stream.specs.declared.How.the-variants.{On, Stopped, NotRead, NotWritten}
@@ -27,39 +28,39 @@ is-waiting Wait e = refl
 is-waiting Full e = let z : _≡_ {A = ℕ} 0 1 = cc in absurd (omega arith)
 is-waiting Stop e = let z : _≡_ {A = ℕ} 0 1 = cc in absurd (omega arith)
 
-module _ (s : State) (buffer : List ℕ) (room : ℕ) {ran : Ran} {out out′ : List ℕ} (within : Within s (length buffer)) (is : Running out (ranOver s buffer room) out′ ran) where
+module _ (s : State) (buffer : List ℕ) (room : ℕ) {ran : Ran} {out out′ : List ℕ} (within : Within s (length buffer)) (is : Running replayer out (ranOver s buffer room) out′ (ran .next) (ran .refusal) (ran .replay) (ran .used) (ran .to)) where
   abbrev next : State
   next = afterRun s (ran .replay) (ran .used)
 
-  next-is : next ≡ afterRun s (ranOver s buffer room .replay) (ranOver s buffer room .at)
-  next-is = rw (is .replay, is .used)
+  next-is : next ≡ afterRun s (ranOver s buffer room .state) (ranOver s buffer room .at)
+  next-is = rw (is .state-is, is .used-is)
 
   -- what is used was there
   pub used-there : s .from + ran .used ≤ s .to
-  used-there = omega (arith, used-within (unused s buffer) (s .last) (s .replay) room, is .used, length-unused s buffer within)
+  used-there = omega (arith, used-within replayer (unused s buffer) (s .last) (s .replay) room, is .used-is, length-unused s buffer within)
 
   next-within : Within next (length buffer)
   next-within = (used-there, within .1)
 
   -- the text stands in the buffer that was lent for it
   pub text-there : ran .to ≡ length (take (ran .to) out′)
-  text-there = sym (length-take-le (ran .to) out′ (omega (arith, is .text .place, is .text .room, pushed-length (is .text))))
+  text-there = sym (length-take-le (ran .to) out′ (omega (arith, is .text-is .place, is .text-is .room, pushed-length (is .text-is))))
 
   -- where it waits, less than a record is left
   pub little-left : ran .next ≡ Wait → length (unused next buffer) < lengthField + longestBody
-  little-left e = rw (unused-after s (ran .replay) (ran .used) buffer, is .used) (few-undecided _ (waits (s .replay) (unused s buffer) (s .last) room (sym (is .next) ∙ e) .1))
+  little-left e = rw (unused-after s (ran .replay) (ran .used) buffer, is .used-is) (few-undecided _ (waits replayer replays (s .replay) (unused s buffer) (s .last) room (sym (is .next-is) ∙ e) .1))
 
   pub turned-on : isWait (ran .next) ≡ false → TurnedAs (howAfter (ran .next) (ran .refusal)) s buffer room next buffer
   turned-on = go (ran .next) refl
     where
       go : (n : Next) → ran .next ≡ n → isWait n ≡ false → TurnedAs (howAfter n (ran .refusal)) s buffer room next buffer
-      go Go e f = absurd (never-go (s .replay) (unused s buffer) (s .last) room (sym (is .next) ∙ e))
+      go Go e f = absurd (never-go replayer replays (s .replay) (unused s buffer) (s .last) room (sym (is .next-is) ∙ e))
       go Wait e f = let z : _≡_ {A = ℕ} 0 1 = cc in absurd (omega arith)
-      go Full e f = (emptied (sym (is .next) ∙ e) next-is refl, next-within)
-      go Stop e f = (sym (is .next) ∙ e, sym (is .refusal))
+      go Full e f = (emptied (sym (is .next-is) ∙ e) next-is refl, next-within)
+      go Stop e f = (sym (is .next-is) ∙ e, sym (is .refusal-is))
 
   pub turned-by-read : (how : How) (s′ : State) (buffer′ : List ℕ) → isWait (ran .next) ≡ true → RefilledAs how next buffer s′ buffer′ → TurnedAs how s buffer room s′ buffer′
-  turned-by-read how s′ buffer′ w = go how (sym (is .next) ∙ is-waiting (ran .next) w)
+  turned-by-read how s′ buffer′ w = go how (sym (is .next-is) ∙ is-waiting (ran .next) w)
     where
       go : (h : How) → ranOver s buffer room .next ≡ Wait → RefilledAs h next buffer s′ buffer′ → TurnedAs h s buffer room s′ buffer′
       go On e r = (refilled e (rw (sym next-is) (r .0)), r .1)

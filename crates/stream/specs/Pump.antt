@@ -7,10 +7,11 @@ use lib.ListN.{length}
 use lib.Dec.{eqb}
 use Rattle.laws.specs.Choice.{pick}
 use Rattle.laws.specs.Bytes.{between}
-use Rattle.playback.specs.Replay.{start, Turn, runOf}
+use Rattle.follow.specs.Follow.{Turn, runOf}
+use Rattle.follow.specs.declared.Next.{Next}
+use Rattle.follow.specs.declared.Next.the-variants.{Go, Wait, Full, Stop}
+use Rattle.playback.specs.Replay.{start, replayer}
 use Rattle.playback.specs.declared.Replay.{Replay}
-use Rattle.playback.specs.declared.Next.{Next}
-use Rattle.playback.specs.declared.Next.the-variants.{Go, Wait, Full, Stop}
 use Rattle.stream.specs.declared.State.{State}
 use Rattle.stream.specs.declared.How.{How}
 use Rattle.stream.specs.declared.How.the-variants.{On, Stopped, NotRead, NotWritten}
@@ -29,8 +30,8 @@ unfoldable pub unused : State → List ℕ → List ℕ
 unused s buffer = between (s .from) (s .to) buffer
 
 -- the run over it, with room for so much text
-abbrev pub ranOver : State → List ℕ → ℕ → Turn
-ranOver s buffer room = runOf (s .replay) (unused s buffer) (s .last) room
+abbrev pub ranOver : State → List ℕ → ℕ → Turn replayer
+ranOver s buffer room = runOf replayer (s .replay) (unused s buffer) (s .last) room
 
 -- the record before the one with this number: 0, where there is none
 abbrev pub recordBefore : ℕ → ℕ
@@ -57,9 +58,9 @@ pub record Refilled (s : State) (buffer : List ℕ) (s′ : State) (buffer′ : 
 
 -- the run's text is full, and is written; or it waits, its text is written, and more is read
 pub data Went (s : State) (buffer : List ℕ) (room : ℕ) (s′ : State) (buffer′ : List ℕ) : Type 0 where
-  emptied : ranOver s buffer room .next ≡ Full → s′ ≡ afterRun s (ranOver s buffer room .replay) (ranOver s buffer room .at) → buffer′ ≡ buffer
+  emptied : ranOver s buffer room .next ≡ Full → s′ ≡ afterRun s (ranOver s buffer room .state) (ranOver s buffer room .at) → buffer′ ≡ buffer
       → Went s buffer room s′ buffer′
-  refilled : ranOver s buffer room .next ≡ Wait → Refilled (afterRun s (ranOver s buffer room .replay) (ranOver s buffer room .at)) buffer s′ buffer′
+  refilled : ranOver s buffer room .next ≡ Wait → Refilled (afterRun s (ranOver s buffer room .state) (ranOver s buffer room .at)) buffer s′ buffer′
       → Went s buffer room s′ buffer′
 
 abbrev pub isWait : Next → Bool
@@ -93,7 +94,7 @@ RefilledAs NotWritten s buffer s′ buffer′ = ⊥
 abbrev pub TurnedAs : How → State → List ℕ → ℕ → State → List ℕ → Type 0
 TurnedAs On s buffer room s′ buffer′ = Went s buffer room s′ buffer′ × Within s′ (length buffer)
 TurnedAs (Stopped refusal) s buffer room s′ buffer′ = (ranOver s buffer room .next ≡ Stop) × (ranOver s buffer room .refusal ≡ refusal)
-TurnedAs NotRead s buffer room s′ buffer′ = (ranOver s buffer room .next ≡ Wait) × (s′ ≡ atFront (afterRun s (ranOver s buffer room .replay) (ranOver s buffer room .at)) buffer)
+TurnedAs NotRead s buffer room s′ buffer′ = (ranOver s buffer room .next ≡ Wait) × (s′ ≡ atFront (afterRun s (ranOver s buffer room .state) (ranOver s buffer room .at)) buffer)
 TurnedAs NotWritten s buffer room s′ buffer′ = s′ ≡ s
 
 -- the status of the program: 0, or 3 of a log that was refused; 1 where the input or the output failed, or more came than turns can do
@@ -122,9 +123,9 @@ pub data Turns : State → List ℕ → List (List ℕ) → List ℕ → Type 0 
   stopped : {s : State} {buffer : List ℕ} {parts : List (List ℕ)} (room : ℕ) → ranOver s buffer room .next ≡ Stop
       → Turns s buffer parts (ranOver s buffer room .text)
   emptied : {s : State} {buffer : List ℕ} {parts : List (List ℕ)} {text : List ℕ} (room : ℕ) → ranOver s buffer room .next ≡ Full
-      → Turns (afterRun s (ranOver s buffer room .replay) (ranOver s buffer room .at)) buffer parts text
+      → Turns (afterRun s (ranOver s buffer room .state) (ranOver s buffer room .at)) buffer parts text
       → Turns s buffer parts (ranOver s buffer room .text ++ text)
   refilled : {s s′ : State} {buffer buffer′ : List ℕ} {parts : List (List ℕ)} {text : List ℕ} (room : ℕ) → ranOver s buffer room .next ≡ Wait
-      → (r : Refilled (afterRun s (ranOver s buffer room .replay) (ranOver s buffer room .at)) buffer s′ buffer′) → r .part ≡ nextPart parts
+      → (r : Refilled (afterRun s (ranOver s buffer room .state) (ranOver s buffer room .at)) buffer s′ buffer′) → r .part ≡ nextPart parts
       → Turns s′ buffer′ (laterParts parts) text
       → Turns s buffer parts (ranOver s buffer room .text ++ text)

@@ -6,10 +6,11 @@ ghost use lib.ListN.{length};
 ghost use mir.Syntax.{w64};
 ghost use mir.Val.{Fits};
 ghost use Rattle.laws.specs.Bytes.{movedForward};
-ghost use Rattle.playback.specs.Replay.{Running};
+ghost use Rattle.follow.specs.Follow.{Running};
+ghost use Rattle.playback.specs.Replay.{replayer};
 ghost use Rattle.stream.specs.Pump.{pumpStart, Within, unused, ranOver, afterRun, atFront, withRead, recordBefore, isOn, isWait, howAfter, RefilledAs, TurnedAs, statusOf};
+use follow::Next;
 use laws::move_forward;
-use playback::Next;
 use playback::Ran;
 use playback::Replay;
 use playback::run;
@@ -67,7 +68,7 @@ fn begin() -> State
 // A run over all that came and is not used.
 fn run_over(state: State, buffer: &[u8], text: &mut [u8]) -> Ran
     requires { ⌜ Within state (length (now buffer)) ⌝ }
-    ensures { λ r. ⌜ Running (now (text .entry)) (ranOver state (now (buffer .entry)) (length (now (text .entry)))) (now (text .exit)) r ⌝ }
+    ensures { λ r. ⌜ Running replayer (now (text .entry)) (ranOver state (now (buffer .entry)) (length (now (text .entry)))) (now (text .exit)) (r .next) (r .refusal) (r .replay) (r .used) (r .to) ⌝ }
 {
     let replay = state.replay;
     let from = state.from;

@@ -4,8 +4,6 @@ use denote.Ref.{now}
 use lib.ListN.{length}
 use mathlib.Core.Bool.{true}
 use mathlib.Core.Path.{_≡_, sym, _∙_}
-use Rattle.playback.specs.Replay.{Running}
-use Rattle.stream.specs.Pump.{ranOver}
 use Rattle.stream.proofs.Turns.{used-there, text-there, little-left, is-waiting, turned-on, turned-by-read}
 use Rattle.stream.proofs.turn.Statement.{statement}
 use Rattle.stream.proofs.turn.Tie as tie
