@@ -1,0 +1,45 @@
+-- Who follows a log for a program: the replay, or the answer.
+use Prim.Native.Nat.{ℕ, _-_}
+use mathlib.Core.Bool.{Bool, true, false}
+use mathlib.Core.List.{List}
+use mathlib.Core.Path.{_≡_}
+use Rattle.laws.specs.Choice.{pick}
+use Rattle.benchlog.specs.declared.Entry.{Entry}
+use Rattle.follow.specs.Teller.{Teller, Lawful}
+use Rattle.playback.specs.Replay as replay
+use Rattle.playback.specs.Replay.{replayer}
+use Rattle.playback.specs.declared.Replay.{Replay}
+use Rattle.answers.specs.Answer as answer
+use Rattle.answers.specs.Answer.{answerer}
+use Rattle.answers.specs.declared.Answering.{Answering}
+use Rattle.answers.specs.declared.Asked.{Asked}
+use Rattle.answers.specs.declared.Asked.the-variants.{Stretches}
+use Rattle.jobs.specs.declared.Job.{Job}
+
+-- a job of either kind: the other one's state stays as it is
+abbrev pub replayJob : Answering → Replay → Job
+replayJob a r = record { answers = false; replay = r; answering = a }
+
+abbrev pub answerJob : Replay → Answering → Job
+answerJob r a = record { answers = true; replay = r; answering = a }
+
+-- before the version byte
+abbrev pub toReplay : Job
+toReplay = replayJob (answer.start Stretches) replay.start
+
+abbrev pub toAnswer : Asked → Job
+toAnswer asked = answerJob replay.start (answer.start asked)
+
+abbrev pub worker : Teller
+worker = record {
+  State = Job;
+  begun = λ j. pick (j .answers) (answerer .begun (j .answering)) (replayer .begun (j .replay));
+  begin = λ j. pick (j .answers) (answerJob (j .replay) (answerer .begin (j .answering))) (replayJob (j .answering) (replayer .begin (j .replay)));
+  text = λ j e. pick (j .answers) (answerer .text (j .answering) e) (replayer .text (j .replay) e);
+  next = λ j e. pick (j .answers) (answerJob (j .replay) (answerer .next (j .answering) e)) (replayJob (j .answering) (replayer .next (j .replay) e));
+  last = λ j refusal. pick (j .answers) (answerer .last (j .answering) refusal) (replayer .last (j .replay) refusal);
+}
+
+-- how many records came
+abbrev pub recordsIn : Job → ℕ
+recordsIn j = pick (j .answers) (j .answering .account .number) (j .replay .number - 1)
