@@ -9,10 +9,8 @@ use codes::RESET_AT;
 use codes::Range;
 use laws::both;
 use registers::Answer;
+use registers::SOFT_RESET;
 use registers::is_accepted;
-
-// The byte that 0x14 takes for a soft reset.
-const SOFT_RESET: u8 = 0xB6;
 
 // How many, since power-up: samples accepted, frames taken, samples lost, frames held when the FIFO was cleared, and events refused.
 pub struct Counts {
