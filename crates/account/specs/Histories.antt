@@ -1,6 +1,6 @@
 -- The account, from the events alone: what the histories say of a log. In a history the latest event stands first.
-use Prim.Native.Nat.{ℕ, suc, _+_, _-_}
-use mathlib.Core.Bool.{Bool, true, false, not}
+use Prim.Native.Nat.{ℕ, suc, _+_, _-_, _≤_}
+use mathlib.Core.Bool.{not}
 use mathlib.Core.List.{List, [], _∷_, _++_}
 use mathlib.Core.Path.{_≡_}
 use lib.Dec.{eqb}
@@ -87,3 +87,22 @@ Adjacent (s ∷ r ∷ ss) = (s .from ≡ r .to) × Adjacent (r ∷ ss)
 pub record Conserved (from to : Account) : Type 0 where
   pub whole : from .held + (to .counts .accepted - from .counts .accepted)
       ≡ (to .counts .taken - from .counts .taken) + (to .counts .lost - from .counts .lost) + (to .counts .cleared - from .counts .cleared) + to .held
+
+-- ---- counts at two histories
+-- each is no less than it was
+pub record Grown (from to : Counts) : Type 0 where
+  pub accepted : from .accepted ≤ to .accepted
+  pub taken : from .taken ≤ to .taken
+  pub lost : from .lost ≤ to .lost
+  pub cleared : from .cleared ≤ to .cleared
+  pub refused : from .refused ≤ to .refused
+
+-- what was counted from one to the other, where it is no less
+abbrev pub apart : Counts → Counts → Counts
+apart from to = record {
+  accepted = to .accepted - from .accepted;
+  taken = to .taken - from .taken;
+  lost = to .lost - from .lost;
+  cleared = to .cleared - from .cleared;
+  refused = to .refused - from .refused;
+}

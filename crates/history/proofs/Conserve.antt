@@ -102,7 +102,7 @@ one-size es (sample x y z t) f q =
     rw e (frame-long (axesOf (control es)) x y z .1)
 one-size es cycle f q = cc
 
-lawful : Lawful accelerometer
+pub lawful : Lawful accelerometer
 lawful = record {
   keeps = steady;
   some-deep = λ es. depth-some deep (modeOf (control es));

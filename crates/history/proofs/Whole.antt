@@ -36,7 +36,7 @@ module _ (s : Setting) (deep : s .drops ≡ Oldest → 1 ≤ s .depth) (one : 1 
       let g = conserved s deep es in
       ap length (sym (g .whole)) ∙ numbers (marks s es) ∙ omega (arith, held-counted s deep one es)
 
-  few : (es : List (ledger.Event (List ℕ))) → heldAfter s es ≤ s .depth
+  pub few : (es : List (ledger.Event (List ℕ))) → heldAfter s es ≤ s .depth
   few es = omega (arith, held-counted s deep one es, conserved s deep es .few)
 
   module _ (es : List (ledger.Event (List ℕ))) where
@@ -98,7 +98,7 @@ grew s deep one es n nothing o = record { taken = refl; lost = refl; clearedAway
 
 -- ---- one more event
 module _ (c : Chip) (es : List (c .Event)) (e : c .Event) (w : Said) (q : c .says es e ≡ w) where
-  next-totals : totals c (e ∷ es) ≡ totalled (c .setting es) (heldNow c es) w (totals c es)
+  pub next-totals : totals c (e ∷ es) ≡ totalled (c .setting es) (heldNow c es) w (totals c es)
   unfolding totals
   next-totals = rw q
 
@@ -116,7 +116,7 @@ module _ (c : Chip) (es : List (c .Event)) (e : c .Event) (w : Said) (q : c .say
     unfolding fates
     next-fates = (λ i. marks (same i) (next-since i))
 
-    next-held : heldNow c (e ∷ es) ≡ heldAfter s (onto w (since c es))
+    pub next-held : heldNow c (e ∷ es) ≡ heldAfter s (onto w (since c es))
     next-held = (λ i. heldAfter (same i) (next-since i))
 
 same-ends : (c : Chip) (kind : List (Mark (List ℕ)) → List (List ℕ)) (w : Said) (es : List (c .Event)) → isCleared w ≡ false
