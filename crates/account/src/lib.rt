@@ -7,6 +7,7 @@ use codes::FRAMES_AT;
 use codes::RANGE_AT;
 use codes::RESET_AT;
 use codes::Range;
+use laws::both;
 use registers::Answer;
 use registers::is_accepted;
 
@@ -76,10 +77,8 @@ pub fn ends_stretch(why: Why) -> bool
 pub fn why_of_write(address: u8, byte: u8, answer: Answer) -> Why
     ensures { λ r. ⌜ r ≡ whyOfWrite address byte answer ⌝ }
 {
-    if address as usize == RESET_AT {
-        if byte == SOFT_RESET {
-            return Why::Reset;
-        }
+    if both(address as usize == RESET_AT, byte == SOFT_RESET) {
+        return Why::Reset;
     }
     if address as usize != RANGE_AT {
         return Why::Nothing;

@@ -1,0 +1,16 @@
+use Rattle.account.specs.Account.{countsAfter, accountAfter}
+use Rattle.account.proofs.Account.after_read.Statement.{statement}
+use Rattle.account.proofs.Account.after_read.Tie as tie
+
+pub after-read-spec : {M : Type 1} → statement M
+unfolding countsAfter accountAfter
+after-read-spec =
+    tie.close
+    (tie.spec
+    (λ c κs. tt)
+    (λ c κs. tt)
+    (λ c κs. tt)
+    (λ c κs. tt)
+    (λ c.
+    let left = c .before in
+    simp (c .moved .ensures, left .with-left .ensures, left .before .refused-by .ensures, left .before .before .less-by .ensures)))
