@@ -1,4 +1,5 @@
--- The account is what the histories say: the frames held and the range, why a stretch ends, and each count, one event at a time.
+-- The account is what the histories say: the frames held and the range, why a stretch ends, and each count, one event at a time; and
+-- what it conserves between two histories.
 -- Assumes nothing.
 use Prim.Native.Nat.{ℕ, suc, _+_, _-_, _^_, _≤_, _<_, min}
 use mathlib.Core.Bool.{Bool, true, false, not}
@@ -13,15 +14,15 @@ use Rattle.laws.specs.Choice.{pick, both}
 use Rattle.codes.specs.Addresses.{rangeAt, framesAt}
 use Rattle.codes.specs.Axes.{axesOf}
 use Rattle.codes.specs.Range.{rangeOf, isReservedRange}
+use Rattle.table.specs.Rows.{resetBytes, rowOf, lineOf, listed}
 use Rattle.fifo.specs.Flat.{Flat, packed}
 use Rattle.fifo.specs.Ledger.{heldOf}
 use Rattle.fifo.specs.Store.{countIn}
 use Rattle.fifo.specs.declared.Setting.{Setting}
-use Rattle.table.specs.Rows.{resetBytes, rowOf, lineOf, listed}
 use Rattle.registers.specs.Answers.{accepted}
-use Rattle.registers.specs.declared.Answer.{Answer}
 use Rattle.registers.specs.Deeds.{isReset, judgement, clears}
 use Rattle.registers.specs.Refused.{readAnswer, writeAnswer}
+use Rattle.registers.specs.declared.Answer.{Answer}
 use Rattle.registers.proofs.Verdicts.{range-accepted}
 use Rattle.device.specs.Device.{firstBytes}
 use Rattle.device.specs.Read.{readOf}
@@ -42,7 +43,7 @@ use Rattle.history.proofs.Whole.{few, next-totals, next-held}
 use Rattle.account.specs.declared.Doubt.the-variants.{No, By}
 use Rattle.account.specs.declared.Why.the-variants as why
 use Rattle.account.specs.Account.{sum, less, differences, left, arrived, refusedBy, countsAfter, whyOf, whyOfWrite, whyOfRead, doubtAfter, doubtBehind, firstAccount, accountAfter}
-use Rattle.account.specs.Histories.{refusals, countsOf, doubtOf, accountOf, whyAt, Conserved, Grown, apart}
+use Rattle.account.specs.Histories.{refusals, countsOf, doubtOf, accountOf, stepped, whyAt, Conserved, Grown, apart}
 
 -- ---- what the device says
 -- the frames that it holds are those of the ledger
@@ -111,7 +112,7 @@ unfolding refusals
 refusals-few [] = omega arith
 refusals-few (e ∷ es) = omega (arith, worth-few (not (accepted (happens (after es) e .answer))), refusals-few es)
 
--- none is larger than the number of events
+-- none is larger than the number of events, and no more frames are held than the depth
 pub record Bounded (es : List Event) : Type 0 where
   pub accepted : countsOf es .accepted ≤ length es
   pub taken : countsOf es .taken ≤ length es
@@ -135,10 +136,10 @@ bounded es =
 
 -- ---- what one event more adds to the counts
 -- below 2 ^ 64 nothing wraps
-sum-is : (a b : ℕ) → a + b < 2 ^ 64 → sum a b ≡ a + b
+pub sum-is : (a b : ℕ) → a + b < 2 ^ 64 → sum a b ≡ a + b
 sum-is a b h = omega arith
 
-less-is : (a b : ℕ) → b ≤ a → a < 2 ^ 64 → less a b ≡ a - b
+pub less-is : (a b : ℕ) → b ≤ a → a < 2 ^ 64 → less a b ≡ a - b
 less-is a b h l = omega arith
 
 refused-is : (b : Bool) → pick b 0 1 ≡ worth 1 (not b)
@@ -306,6 +307,11 @@ account-next es e room =
       range = range-is (e ∷ es) i;
       held = held i;
     }
+
+pub account-is : (es : List Event) → length es < 2 ^ 64 → stepped es ≡ accountOf es
+unfolding stepped
+account-is [] room = account-first
+account-is (e ∷ es) room = rw (account-is es (omega arith)) (account-next es e room)
 
 -- ---- between two histories
 totals-grow : (es : List Event) (e : Event) → Grown (countsOf es) (countsOf (e ∷ es))

@@ -11,6 +11,7 @@ use Rattle.codes.specs.Addresses.{rangeAt}
 use Rattle.codes.specs.Range.{rangeOf, isReservedRange}
 use Rattle.registers.specs.Answers.{accepted}
 use Rattle.registers.specs.Deeds.{isReset}
+use Rattle.device.specs.Show.{heldIn, rangeIn}
 use Rattle.events.specs.Bank.{stored}
 use Rattle.events.specs.Event.{Event, powerUp, write, read, sample, cycle, happens}
 use Rattle.events.specs.Run.{after}
@@ -22,7 +23,7 @@ use Rattle.account.specs.declared.Doubt.{Doubt}
 use Rattle.account.specs.declared.Doubt.the-variants.{No, By}
 use Rattle.account.specs.declared.Why.{Why}
 use Rattle.account.specs.declared.Why.the-variants as why
-use Rattle.account.specs.Account.{ends}
+use Rattle.account.specs.Account.{ends, firstAccount, accountAfter}
 
 -- how many events the device refused
 unfoldable pub refusals : List Event → ℕ
@@ -50,6 +51,11 @@ doubtOf (cycle ∷ es) = doubtOf es
 abbrev pub accountOf : List Event → Account
 accountOf es =
     record { number = length es; counts = countsOf es; doubt = doubtOf es; range = rangeOf (stored es rangeAt); held = heldNow accelerometer es }
+
+-- the account that is stepped with the device, one event at a time
+unfoldable pub stepped : List Event → Account
+stepped [] = firstAccount
+stepped (e ∷ es) = accountAfter (stepped es) e (happens (after es) e .answer) (rangeIn (after (e ∷ es))) (heldIn (after (e ∷ es)))
 
 -- why a stretch ends with an event: "a readout: an accepted read at 0x3F; a write to 0x0F, accepted or refused; a soft reset"
 unfoldable pub whyAt : Event → Why
@@ -105,4 +111,45 @@ apart from to = record {
   lost = to .lost - from .lost;
   cleared = to .cleared - from .cleared;
   refused = to .refused - from .refused;
+}
+
+-- ---- stretches one after the other
+-- a history is the earlier part of another
+abbrev pub Part : List Event → List Event → Type 0
+Part earlier es = (later : List Event) × (es ≡ later ++ earlier)
+
+-- the stretch that has not ended, from the last end on
+abbrev pub unended : List Event → Stretch
+unended es = record { from = lastEnd es; to = es; why = why.Nothing }
+
+-- stretches, the latest first, that lead from the history h to the history k: each begins where the one before it ended
+abbrev pub Between : List Event → List Stretch → List Event → Type 0
+Between h [] k = k ≡ h
+Between h (s ∷ ss) k = (s .to ≡ k) × Part (s .from) (s .to) × Between h ss (s .from)
+
+-- the latest ends at the history k, and where there is none k is that of power-up
+abbrev pub EndAt : List Stretch → List Event → Type 0
+EndAt [] k = k ≡ []
+EndAt (s ∷ ss) k = s .to ≡ k
+
+abbrev pub Each : (Stretch → Type 0) → List Stretch → Type 0
+Each P [] = Unit {0}
+Each P (s ∷ ss) = P s × Each P ss
+
+-- a number of each, added up
+abbrev pub over : (Stretch → ℕ) → List Stretch → ℕ
+over f [] = 0
+over f (s ∷ ss) = f s + over f ss
+
+-- what was counted in one, and in all together
+abbrev pub inside : Stretch → Counts
+inside s = apart (countsOf (s .from)) (countsOf (s .to))
+
+abbrev pub together : List Stretch → Counts
+together ss = record {
+  accepted = over (λ s. inside s .accepted) ss;
+  taken = over (λ s. inside s .taken) ss;
+  lost = over (λ s. inside s .lost) ss;
+  cleared = over (λ s. inside s .cleared) ss;
+  refused = over (λ s. inside s .refused) ss;
 }
