@@ -2,7 +2,7 @@
 -- Assumes nothing.
 use Prim.Native.Nat.{ℕ, zero, suc, _+_, _-_, _^_, _≤_, _<_}
 use mathlib.Core.Bool.{Bool, true, false}
-use mathlib.Core.List.{List, [], _∷_, _++_, append-assoc, append-nil}
+use mathlib.Core.List.{List, [], _∷_, _++_, append-assoc}
 use mathlib.Core.Path.{_≡_, refl, sym, ap, _∙_}
 use native.Mathlib.Omega.{arith}
 use lib.Dec.{eqb, ltb}
@@ -23,11 +23,10 @@ use Rattle.events.specs.Run.{after}
 use Rattle.entries.specs.Entries.{eventOf}
 use Rattle.follow.specs.Whole.{linesAs, linesOf, begunAs, printedFrom}
 use Rattle.account.specs.Account.{ends, firstAccount}
-use Rattle.account.specs.Histories.{accountOf, whyAt, lastEnd, Stretch, stretches}
+use Rattle.account.specs.Histories.{accountOf, whyAt, lastEnd}
 use Rattle.account.proofs.Histories.{account-first, account-next, why-is}
-use Rattle.wording.specs.Wording.{stretchLine}
 use Rattle.answers.specs.Answer.{start, at, recordText, markAfter, answerer, printed}
-use Rattle.answers.specs.Histories.{eventsAs, eventsOnto, stopAs, stopIn, markOf, toldOf, linesFor, stretchLines, endOf, toldAs, told}
+use Rattle.answers.specs.Histories.{eventsAs, eventsOnto, stopAs, stopIn, markOf, toldOf, endOf, toldAs, told}
 use Rattle.answers.specs.declared.Answering.{Answering}
 use Rattle.answers.specs.declared.Asked.{Asked}
 use Rattle.answers.specs.declared.Asked.the-variants.{Stretches, Samples, Between}
@@ -165,17 +164,3 @@ told-is asked log room = go (readVersion log .begins) (drop (readVersion log .ne
         ap (λ s. linesOf answerer (suc (length log)) s bytes) (begins-with asked) ∙ whole
     go begins.WrongVersion bytes less = ends-with asked _
     go begins.Empty bytes less = ends-with asked _
-
--- ---- stretches
--- of those that have ended, a line each, and in order
-pub stretches-told : (es : List Event) → toldOf Stretches es ≡ stretchLines es
-unfolding toldOf stretches
-stretches-told [] = refl
-stretches-told (e ∷ es) = rw (stretches-told es) (go (ends (whyAt e)))
-  where
-    line : List ℕ
-    line = stretchLine (accountOf (lastEnd es)) (accountOf es) (accountOf (e ∷ es)) (whyAt e)
-
-    go : (t : Bool) → stretchLines es ++ pick t line [] ≡ linesFor (pick t (record { from = lastEnd es; to = e ∷ es; why = whyAt e } ∷ stretches es) (stretches es))
-    go true = refl
-    go false = append-nil (stretchLines es)

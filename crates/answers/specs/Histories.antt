@@ -15,8 +15,7 @@ use Rattle.benchlog.specs.declared.Begins.the-variants as begins
 use Rattle.events.specs.Event.{Event, happens}
 use Rattle.events.specs.Run.{after}
 use Rattle.entries.specs.Entries.{eventOf}
-use Rattle.account.specs.Histories.{accountOf, whyAt, lastEnd, Stretch, stretches}
-use Rattle.wording.specs.Wording.{stretchLine}
+use Rattle.account.specs.Histories.{accountOf, whyAt, lastEnd}
 use Rattle.answers.specs.Answer.{recordText, endText}
 use Rattle.answers.specs.declared.Asked.{Asked}
 use Rattle.answers.specs.declared.Asked.the-variants.{Stretches, Samples, Between}
@@ -55,18 +54,6 @@ toldOf asked [] = []
 toldOf asked (e ∷ es) =
     toldOf asked es
     ++ recordText asked (accountOf (markOf asked es)) (accountOf es) (accountOf (e ∷ es)) e (happens (after es) e .answer) (whyAt e)
-
--- of stretches, of which the latest stands first, a line each. The range is that before the last record acts
-abbrev pub before : List Event → List Event
-before [] = []
-before (e ∷ es) = es
-
-abbrev pub linesFor : List Stretch → List ℕ
-linesFor [] = []
-linesFor (s ∷ ss) = linesFor ss ++ stretchLine (accountOf (s .from)) (accountOf (before (s .to))) (accountOf (s .to)) (s .why)
-
-abbrev pub stretchLines : List Event → List ℕ
-stretchLines es = linesFor (stretches es)
 
 -- and where the log stops
 abbrev pub endOf : Asked → Bool → List Event → ℕ → List ℕ
