@@ -18,7 +18,7 @@ use Rattle.account.proofs.Ranges.{range-stays}
 use Rattle.account.proofs.Stretches.{lastEnd-part, stretches-lead, all-lead}
 use Rattle.wording.specs.Wording.{stretchLine, lastLine}
 use Rattle.answers.specs.Histories.{toldOf, endOf}
-use Rattle.answers.specs.Plain.{allOf, before, lineOf, linesFor}
+use Rattle.answers.specs.Plain.{allOf, lineOf, linesFor}
 use Rattle.answers.specs.declared.Asked.the-variants.{Stretches}
 
 -- ---- the lines

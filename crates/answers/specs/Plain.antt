@@ -9,7 +9,7 @@ use Rattle.events.specs.Event.{Event}
 use Rattle.account.specs.Account.{differences}
 use Rattle.account.specs.Histories.{accountOf, whyAt, lastEnd, Stretch, stretches, unended, Between, over}
 use Rattle.account.specs.declared.Counts.{Counts}
-use Rattle.wording.specs.Wording.{stretchLine, rangeLine, totalsLine}
+use Rattle.wording.specs.Wording.{stretchLine, rangeLine}
 use Rattle.answers.specs.Answer.{setsRange}
 
 -- ---- stretches
