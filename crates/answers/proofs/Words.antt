@@ -12,16 +12,16 @@ use borrow.Author.Tests.{eq-eqb, ne-eqb, lt-ltb, le-ltb}
 use Rattle.laws.specs.Choice.{pick}
 use Rattle.events.specs.Event.{Event}
 use Rattle.account.specs.Account.{ends}
-use Rattle.account.specs.Histories.{accountOf, whyAt, lastEnd, Stretch, stretches, Part, Between, Each, over, inside, together}
-use Rattle.account.specs.declared.Counts.{Counts}
+use Rattle.account.specs.Histories.{accountOf, whyAt, lastEnd, Stretch, stretches, Part, Between, Each, inside}
 use Rattle.account.proofs.Histories.{differences-are}
 use Rattle.account.proofs.Stretches.{lastEnd-part, sums, each-differs}
 use Rattle.wording.specs.Wording.{totalsLine, shortLine}
 use Rattle.answers.specs.Answer.{firstRange}
 use Rattle.answers.specs.Histories.{markOf, toldOf, endOf}
-use Rattle.answers.specs.Plain.{columnsOf, addedUp, rangesFrom, Summed}
+use Rattle.answers.specs.Plain.{columnsOf, rangesFrom, Summed}
 use Rattle.answers.specs.declared.Asked.{Asked}
 use Rattle.answers.specs.declared.Asked.the-variants as asked
+use Rattle.answers.proofs.Stretches.{added-up-is}
 
 -- ---- the sums
 -- the stretches of a later history that h has not, where one ends at h
@@ -43,27 +43,6 @@ later-lead (e ∷ later) h l = go (later-lead later h l) (ends (whyAt e))
         → (t : Bool) → (ss : List Stretch) × (pick t (new ∷ stretches es) (stretches es) ≡ ss ++ stretches h) × Between h ss (pick t (e ∷ es) (lastEnd es))
     go (ss, are, leads) true = (new ∷ ss, ap (λ r. new ∷ r) are, (refl, part, leads))
     go (ss, are, leads) false = (ss, are, leads)
-
--- numbers that are alike for each stretch add up alike
-over-alike : (f g : Stretch → ℕ) (ss : List Stretch) → Each (λ s. f s ≡ g s) ss → over f ss ≡ over g ss
-over-alike f g [] e = refl
-over-alike f g (s ∷ ss) e = rw (e .0, over-alike f g ss (e .1))
-
-each-of : (f : Counts → ℕ) (ss : List Stretch) → Each (λ s. columnsOf s ≡ inside s) ss → Each (λ s. f (columnsOf s) ≡ f (inside s)) ss
-each-of f [] e = tt
-each-of f (s ∷ ss) e = (ap f (e .0), each-of f ss (e .1))
-
-added-up-is : (ss : List Stretch) → Each (λ s. columnsOf s ≡ inside s) ss → addedUp ss ≡ together ss
-added-up-is ss e = λ i. record {
-  accepted = column (λ n. n .accepted) i;
-  taken = column (λ n. n .taken) i;
-  lost = column (λ n. n .lost) i;
-  cleared = column (λ n. n .cleared) i;
-  refused = column (λ n. n .refused) i;
-}
-  where
-    column : (f : Counts → ℕ) → over (λ s. f (columnsOf s)) ss ≡ over (λ s. f (inside s)) ss
-    column f = over-alike (λ s. f (columnsOf s)) (λ s. f (inside s)) ss (each-of f ss e)
 
 -- from the end of one stretch to the end of a later one, what the words print of the counts is the sum of what the stretches' lines print
 pub words-sum : (later h : List Event) → lastEnd h ≡ h → lastEnd (later ++ h) ≡ later ++ h → length (later ++ h) < 2 ^ 64 → Summed h (later ++ h)
