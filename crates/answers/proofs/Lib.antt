@@ -1,0 +1,3 @@
+pub mod Told
+pub mod Stretches
+pub mod Words

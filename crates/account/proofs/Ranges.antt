@@ -1,0 +1,76 @@
+-- The range in force is always one that the sheet defines, and within a stretch it stays: it and what is doubted of it change only where
+-- a stretch ends.
+-- Assumes nothing.
+use Prim.Native.Nat.{ℕ}
+use mathlib.Core.Bool.{Bool, true, false}
+use mathlib.Core.List.{List, [], _∷_}
+use mathlib.Core.Path.{_≡_, refl, sym, ap, _∙_}
+use lib.Dec.{eqb}
+use borrow.Author.Tests.{eqb-false, ne-eqb}
+use Rattle.laws.specs.Choice.{pick, both}
+use Rattle.codes.specs.Addresses.{rangeAt}
+use Rattle.codes.specs.Range.{rangeOf, isReservedRange}
+use Rattle.table.specs.Rows.{rowAt, merged}
+use Rattle.registers.specs.Deeds.{isReset}
+use Rattle.events.specs.Bank.{bank, stored}
+use Rattle.events.specs.Event.{Event, powerUp, write, read, sample, cycle}
+use Rattle.events.proofs.Runs.{bank-length}
+use Rattle.rules.specs.Proper.{isStored}
+use Rattle.rules.proofs.Registers as registers
+use Rattle.rules.proofs.Writes.{byte-written}
+use Rattle.account.specs.Account.{ends}
+use Rattle.account.specs.Histories.{accountOf, doubtOf, whyAt, lastEnd}
+use Rattle.account.specs.declared.Account.{Account}
+use Rattle.account.specs.declared.Why.the-variants as why
+
+-- no code that the sheet does not define is ever in force
+pub range-known : (es : List Event) → isReservedRange (accountOf es .range) ≡ false
+range-known es = registers.range-known es
+
+-- ---- what leaves the range as it is
+-- two accounts have the same range, and doubt it alike
+abbrev pub SameRange : Account → Account → Type 0
+SameRange a b = (a .range ≡ b .range) × (a .doubt ≡ b .doubt)
+
+-- a write that ends no stretch is no soft reset, and not to 0x0F
+not-ending : (a byte : ℕ) → ends (whyAt (write a byte)) ≡ false → (isReset a byte ≡ false) × (eqb a rangeAt ≡ false)
+unfolding whyAt
+not-ending a byte = go (isReset a byte) (eqb a rangeAt) (isReservedRange (rangeOf byte))
+  where
+    go : (r s t : Bool) → ends (pick r why.Reset (pick s (pick t why.Refused why.Range) why.Nothing)) ≡ false → (r ≡ false) × (s ≡ false)
+    go true s t h = (cc, cc)
+    go false true true h = (cc, cc)
+    go false true false h = (cc, cc)
+    go false false t h = (refl, refl)
+
+other-stored : (es : List Event) (a byte : ℕ) → isReset a byte ≡ false → eqb a rangeAt ≡ false → stored (write a byte ∷ es) rangeAt ≡ stored es rangeAt
+unfolding bank
+other-stored es a byte r s =
+    let n : eqb rangeAt a ≡ false = ne-eqb rangeAt a (λ p. eqb-false a rangeAt s (sym p)) in
+    byte-written (bank es) (bank-length es) rangeAt a byte ∙ rw (r, n) (go (isStored (bank es) a byte))
+  where
+    go : (t : Bool) → pick (both t false) (merged (rowAt a) byte) (stored es rangeAt) ≡ stored es rangeAt
+    go true = refl
+    go false = refl
+
+pub range-stays : (e : Event) (es : List Event) → ends (whyAt e) ≡ false → SameRange (accountOf (e ∷ es)) (accountOf es)
+unfolding whyAt doubtOf bank
+range-stays powerUp es h = (cc, cc)
+range-stays (write a byte) es h =
+    let n = not-ending a byte h in
+    (ap rangeOf (other-stored es a byte (n .0) (n .1)), rw (n .0, n .1))
+range-stays (read a n) es h = (refl, refl)
+range-stays (sample x y z temperature) es h = (refl, refl)
+range-stays cycle es h = (refl, refl)
+
+-- since the last end of a stretch the range is what it was there
+pub range-lasts : (es : List Event) → SameRange (accountOf es) (accountOf (lastEnd es))
+unfolding lastEnd
+range-lasts [] = (refl, refl)
+range-lasts (e ∷ es) = go (range-lasts es) (ends (whyAt e)) refl
+  where
+    go : SameRange (accountOf es) (accountOf (lastEnd es)) → (t : Bool) → ends (whyAt e) ≡ t → SameRange (accountOf (e ∷ es)) (accountOf (pick t (e ∷ es) (lastEnd es)))
+    go earlier true h = (refl, refl)
+    go earlier false h =
+        let s = range-stays e es h in
+        (s .0 ∙ earlier .0, s .1 ∙ earlier .1)
