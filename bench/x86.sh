@@ -1,7 +1,8 @@
 # For scripts that build and run C for x86-64, the kit's kind of program: sets cc, and run, which goes before a program.
 # On a machine of another kind the C compiler is Debian's cross compiler and run is the kit's emulator. What is missing is installed by
-# root, and a line says so; who may not install is told what is missing, and the script ends with status 2.
-kit=$(dirname "$(dirname "$(readlink -f "$(command -v rt)")")")
+# root, and a line says so; who may not install is told what is missing, and the script ends with status 2, as it does without the kit.
+kit=$(command -v rt) || { echo "$0: there is no command rt on the path: the Rattle kit is needed" >&2; exit 2; }
+kit=$(dirname "$(dirname "$(readlink -f "$kit")")")
 tools=$kit/on/$(uname -m)/toolchain
 missing=
 wants() { # COMMAND PACKAGE..

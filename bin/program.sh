@@ -79,7 +79,7 @@ progress() { # HOW MANY
 # Without rt, what is whole is used as it is.
 without_rt() {
     if [ ! -f "$made" ] || [ "$(stamped "$what")" != "$(made_now)" ]; then
-        say "the Rattle kit is not here: there is no command rt to prove and build the $what with"
+        say "there is no command rt on the path: the Rattle kit is needed to prove and build the $what"
         return 1
     fi
     [ "$(stamped sources)" = "$(sources_now)" ] || say "the $what is not made of these sources, and is used as it is: there is no command rt to build it anew"
@@ -126,7 +126,7 @@ show_far() { # SIZE, and the log on descriptor 5
     shown= label=$log
     if [ "$log" = - ]; then label='standard input'; fi
     label=$(printf '%.40s' "${label##*/}" | tr '[:cntrl:]' '?')
-    trap 'kill ${!:-} 2>/dev/null; [ -z "$shown" ] || printf "%${#shown}s\r" "" >&2; exit' TERM
+    trap 'kill ${!:-} 2>/dev/null; wait; [ -z "$shown" ] || printf "%${#shown}s\r" "" >&2; exit' TERM
     while kill -0 $$ 2>/dev/null; do
         sleep 1 &
         wait $!
