@@ -1,3 +1,4 @@
 pub mod Lines
+pub mod Worked
 pub mod OneOutcome
 pub mod Cases
