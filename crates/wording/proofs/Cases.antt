@@ -38,7 +38,7 @@ pub refused-at-once : lastLine false 0 7 ≡ ascii "stop 0 7\n"
 unfolding lastLine decimal lastDigits
 refused-at-once = refl
 
-pub a-sample : sampleLine 9 (pos 16) (negsuc 15) (pos 1024) 1 ≡ ascii "sample 9 16 -16 1024 1\n"
+pub a-sample : sampleLine 9 (pos 2047) (negsuc 2047) (negsuc 0) 1 ≡ ascii "sample 9 2047 -2048 -1 1\n"
 unfolding sampleLine signedColumn decimal lastDigits
 a-sample = refl
 

@@ -1,4 +1,3 @@
 pub mod Lines
-pub mod Worked
-pub mod OneOutcome
 pub mod Cases
+pub mod OneOutcome
