@@ -1,6 +1,9 @@
-/* Checks peer.c by calls and replay.c by running it, against the cases that the rules print and
-   the edges around them. Usage: cases [COMMAND], where COMMAND runs the replay program. */
+/* Checks peer.c and account.c by calls and replay.c and answer.c by running them, against the cases
+   that the rules print and the edges around them. Usage: cases [REPLAY [ANSWER]], commands that run
+   the two programs. */
+#include "account.h"
 #include "peer.h"
+#include "records.h"
 
 #include <stdarg.h>
 #include <stdio.h>
@@ -420,19 +423,20 @@ static void pins(void)
     check(pins_are(&t, PEER_RELEASED, PEER_HIGH), "any-motion on INT2");
 }
 
-/* ---- replay ---- */
+/* ---- programs ---- */
 
-static const char *command = "./replay";
+static const char *replay_command = "./replay", *answer_command = "./answer";
 
-/* Runs the replay program on case.log, with input in one-byte pieces where slow is true. */
-static bool replay_gives(bool slow, const char *wanted)
+/* Whether a program gives this text for case.log, with input in one-byte pieces where slow is
+   true. */
+static bool gives_text(const char *command, const char *arguments, bool slow, const char *wanted)
 {
     char line[256], got[4096];
     size_t length;
     FILE *out;
 
-    snprintf(line, sizeof line, "%s%s%s >case.out", slow ? "dd bs=1 if=case.log 2>&- | " : "",
-             command, slow ? "" : " <case.log");
+    snprintf(line, sizeof line, "%s%s %s%s >case.out", slow ? "dd bs=1 if=case.log 2>&- | " : "",
+             command, arguments, slow ? "" : " <case.log");
     if (system(line) != 0 || (out = fopen("case.out", "rb")) == NULL)
         return false;
     length = fread(got, 1, sizeof got, out);
@@ -448,6 +452,13 @@ static void write_log(const uint8_t *log, size_t length)
         perror("case.log");
         exit(2);
     }
+}
+
+/* ---- replay ---- */
+
+static bool replay_gives(bool slow, const char *wanted)
+{
+    return gives_text(replay_command, "", slow, wanted);
 }
 
 static void replay(const char *hex, const char *wanted)
@@ -537,15 +548,231 @@ static void blocks(void)
             log[i] = "\0\1\4"[(i - 1) % 3];
         write_log(log, length);
         snprintf(line, sizeof line,
-                 "test \"$(%s <case.log | tail -n 2 | tr '\\n' ' ')\" = '%d %d pins 0 0 '", command,
-                 (int)(rest ? records + 1 : records), rest ? 9 : 0);
+                 "test \"$(%s <case.log | tail -n 2 | tr '\\n' ' ')\" = '%d %d pins 0 0 '",
+                 replay_command, (int)(rest ? records + 1 : records), rest ? 9 : 0);
         check(system(line) == 0, "log of %d bytes", (int)length);
     }
 }
 
-static void failing_files(void)
+/* ---- account ---- */
+
+static unsigned draw(unsigned limit)
 {
-    char line[96];
+    static uint32_t state = 1;
+
+    state = state * 1664525u + 1013904223u;
+    return (state >> 16) % limit;
+}
+
+/* Mostly samples, and what drains or empties the FIFO. */
+static void draw_body(uint8_t body[8])
+{
+    static const uint8_t written[] = {0x3E, 0x3E, 0x0F, 0x14};
+
+    memset(body, 0, 8);
+    body[0] = draw(8) ? SAMPLE : (uint8_t)(1 + draw(4));
+    if (body[0] == SAMPLE)
+        body[1] = draw(16) ? 0 : 0x70; /* refused */
+    else
+        body[1] = body[0] == WRITE ? written[draw(4)] : draw(4) ? 0x3F : 0x0E;
+    if (body[0] != SAMPLE)
+        body[2] = (uint8_t)(draw(2) ? 0xB6 : draw(256));
+}
+
+/* Plays one record on both. Gives whether they agree: frames held, and overrun exactly where a
+   sample was lost since the FIFO was emptied; and whether each sample is in one place. */
+static bool agree(struct peer *t, struct account *a, uint64_t *lost_when_emptied)
+{
+    uint8_t body[8], bytes[UINT8_MAX], status;
+    enum peer_answer answer;
+    enum end end;
+
+    draw_body(body);
+    answer = play_body(t, body, bytes);
+    end = account_record(a, body, answer);
+    if (end == RESET || (body[0] == WRITE && body[1] == 0x3E && answer == PEER_DONE))
+        *lost_when_emptied = a->since.lost;
+    peer_read(t, 0x0E, &status, 1);
+    return a->held == (status & 0x7Fu) && (a->since.lost > *lost_when_emptied) == status >> 7 &&
+           a->since.accepted == a->since.taken + a->since.lost + a->since.cleared + a->held;
+}
+
+static void account_and_twin(void)
+{
+    struct peer t;
+    struct account a;
+    uint64_t lost_when_emptied = 0;
+    int apart = 0;
+
+    peer_power_up(&t);
+    account_power_up(&a);
+    for (int i = 0; i < 200000; i++)
+        if (!agree(&t, &a, &lost_when_emptied))
+            apart++;
+    check(apart == 0, "the account and the twin are apart after %d records", apart);
+    check(a.since.taken > 1000 && a.since.lost > 1000 && a.since.cleared > 1000 &&
+              a.since.refused > 1000,
+          "the account had something to count");
+}
+
+/* ---- answer ---- */
+
+/* The log that the next answers are asked of: hex, so many times, behind what there is. */
+static void add(int times, const char *hex)
+{
+    static uint8_t log[4096];
+    static size_t length;
+
+    if (times == 0)
+        length = 0;
+    while (times-- > 0)
+        length += from_hex(hex, log + length);
+    write_log(log, length);
+}
+
+static void begin_log(const char *hex)
+{
+    add(0, "");
+    add(1, hex);
+}
+
+static void answers(const char *arguments, const char *wanted)
+{
+    check(gives_text(answer_command, arguments, false, wanted), "answer %s:\n%s", arguments,
+          wanted);
+}
+
+#define NO_SAMPLES "0 accepted, 0 taken, 0 lost, 0 cleared, 0 held before, 0 held after\n"
+
+/* The insurer's log: 16 g, a refused code, 40 samples into a FIFO of 32, two readouts. */
+static void spring(void)
+{
+    static const char wanted[] = "1 1 2g 0 0 0 0 0 0 range\n"
+                                 "2 2 16g 0 0 0 0 0 1 refused\n"
+                                 "3 86 16g? 40 16 8 0 16 0 readout\n"
+                                 "87 88 16g? 0 16 0 0 0 0 readout\n"
+                                 "89 89 16g? 0 0 0 0 0 0 rest\n"
+                                 "end 89\n";
+
+    begin_log("01 00 03 01 0F 0C 00 03 01 0F 07 00 03 02 0F 01 00 03 01 3E 41");
+    add(40, "00 08 03 00 10 00 00 00 00 17 00 01 04");
+    add(1, "00 03 02 0E 01 00 03 02 3F 20 00 03 02 0E 01 00 03 02 3F 20 00 03 02 0E 01");
+    answers("", wanted);
+    check(gives_text(answer_command, "", true, wanted), "spring, byte by byte");
+    answers("0 86", "from record 1: 2g\n"
+                    "from record 2: 16g\n"
+                    "from record 3: 16g?, because record 2 wrote 07 to 0F and was refused\n"
+                    "records 1 to 86: 40 accepted, 16 taken, 8 lost, 0 cleared, 0 held before, "
+                    "16 held after\n");
+    answers("86 88", "from record 87: 16g?, because record 2 wrote 07 to 0F and was refused\n"
+                     "records 87 to 88: 0 accepted, 16 taken, 0 lost, 0 cleared, "
+                     "16 held before, 0 held after\n");
+}
+
+/* Doubt comes with a refused write and goes with an accepted one or a soft reset, no readout. */
+static void doubts(void)
+{
+    begin_log("01 00 03 01 0F 04 00 03 02 3F 06 00 03 01 0F F5 00 03 01 0F 00 00 03 01 0F 1F"
+              "00 03 01 14 B6 00 03 01 14 B5");
+    answers("", "1 1 2g 0 0 0 0 0 1 refused\n"
+                "2 2 2g? 0 0 0 0 0 0 readout\n"
+                "3 3 2g? 0 0 0 0 0 0 range\n"
+                "4 4 4g 0 0 0 0 0 1 refused\n"
+                "5 5 4g? 0 0 0 0 0 1 refused\n"
+                "6 6 4g? 0 0 0 0 0 0 reset\n"
+                "7 7 2g 0 0 0 0 0 0 rest\n"
+                "end 7\n");
+    answers("0 7", "from record 1: 2g\n"
+                   "from record 2: 2g?, because record 1 wrote 04 to 0F and was refused\n"
+                   "from record 4: 4g\n"
+                   "from record 5: 4g?, because record 4 wrote 00 to 0F and was refused\n"
+                   "from record 6: 4g?, because record 5 wrote 1F to 0F and was refused\n"
+                   "from record 7: 2g\n"
+                   "records 1 to 7: " NO_SAMPLES);
+    answers("2 3", "from record 3: 2g?, because record 1 wrote 04 to 0F and was refused\n"
+                   "records 3 to 3: " NO_SAMPLES);
+    answers("5 8", "from record 6: 4g?, because record 5 wrote 1F to 0F and was refused\n"
+                   "from record 7: 2g\n"
+                   "records 6 to 7: " NO_SAMPLES
+                   "the log ends after record 7; what came up to record 8 is not known\n");
+    answers("7 8", "the log ends after record 7; what came up to record 8 is not known\n");
+    answers("8 18446744073709551615", "the log ends after record 7; what came up to record "
+                                      "18446744073709551615 is not known\n");
+}
+
+/* One byte takes a frame; a refused write to 0x3E or a refused read does nothing to them. */
+static void frames(void)
+{
+    begin_log("01 00 08 03 F8 00 07 FF FF FB 80 00 08 03 00 00 00 01 00 02 00 00 03 02 3F 01");
+    add(3, "00 08 03 00 00 00 00 00 00 00");
+    add(1, "00 03 01 3E 80 00 03 01 3E 40");
+    add(3, "00 08 03 00 00 00 00 00 00 00");
+    add(1, "00 08 03 08 00 00 00 00 00 00 00 03 01 3E C0 00 03 02 3F 00 00 03 02 3F C1"
+           "00 03 02 3F 07 00 03 02 3F 0D 00 08 03 00 00 00 00 00 00 00 00 03 01 14 B6");
+    answers("", "1 3 2g 2 1 1 0 0 0 readout\n"
+                "4 16 2g 6 2 2 1 1 4 readout\n"
+                "17 17 2g 0 1 0 0 0 0 readout\n"
+                "18 19 2g 1 0 0 1 0 0 reset\n"
+                "end 19\n");
+    answers("samples", "sample 1 -2048 2047 -5 0\n"
+                       "sample 2 0 1 2 1\n"
+                       "1 3 2g 2 1 1 0 0 0 readout\n"
+                       "sample 4 0 0 0 0\n"
+                       "sample 5 0 0 0 1\n"
+                       "sample 6 0 0 0 1\n"
+                       "sample 9 0 0 0 0\n"
+                       "sample 10 0 0 0 0\n"
+                       "sample 11 0 0 0 0\n"
+                       "4 16 2g 6 2 2 1 1 4 readout\n"
+                       "17 17 2g 0 1 0 0 0 0 readout\n"
+                       "sample 18 0 0 0 0\n"
+                       "18 19 2g 1 0 0 1 0 0 reset\n"
+                       "end 19\n");
+    answers("10 17", "from record 11: 2g\n"
+                     "records 11 to 17: 1 accepted, 3 taken, 0 lost, 0 cleared, 2 held before, "
+                     "0 held after\n");
+}
+
+static void damaged(void)
+{
+    begin_log("");
+    answers("", "stop 0 9\n");
+    answers("0 1", "the log was refused 9 after record 0; what came up to record 1 is not known\n");
+    begin_log("02 00 01 04");
+    answers("samples", "stop 0 7\n");
+    answers("3 9", "the log was refused 7 after record 0; what came up to record 9 is not known\n");
+    begin_log("01");
+    answers("", "end 0\n");
+    answers("0 1", "the log ends after record 0; what came up to record 1 is not known\n");
+    begin_log("01 00 01 04 00 01 04 00 01 05");
+    answers("", "1 2 2g 0 0 0 0 0 0 rest\nstop 3 8\n");
+    answers("1 2", "from record 2: 2g\nrecords 2 to 2: " NO_SAMPLES);
+    answers("1 3", "from record 2: 2g\nrecords 2 to 2: " NO_SAMPLES
+                   "the log was refused 8 after record 2; what came up to record 3 is not known\n");
+    begin_log("01 00 03 02 3F 01 00 08");
+    answers("", "1 1 2g 0 0 0 0 0 0 readout\nstop 2 9\n");
+}
+
+static void wrong_use(void)
+{
+    static const char *const arguments[] = {
+        "x", "1", "5 5", "5 4", "1 x", "-1 5", "+1 5", "'' 5", "1 2 3", "0x1 5",
+        "0 18446744073709551616"};
+
+    for (size_t i = 0; i < sizeof arguments / sizeof *arguments; i++) {
+        char line[160];
+
+        snprintf(line, sizeof line, "%s %s <case.log 2>&- >case.out; test $? = 2", answer_command,
+                 arguments[i]);
+        check(system(line) == 0, "answer %s is wrong use", arguments[i]);
+    }
+}
+
+/* ---- files that fail ---- */
+
+static void failing_files(const char *command)
+{
+    char line[160];
 
     write_log((const uint8_t *)"\1", 1);
     snprintf(line, sizeof line, "%s <case.log 2>&- >/dev/full", command);
@@ -557,7 +784,9 @@ static void failing_files(void)
 int main(int count, char **argument)
 {
     if (count > 1)
-        command = argument[1];
+        replay_command = argument[1];
+    if (count > 2)
+        answer_command = argument[2];
     p1_to_p4();
     p5_to_p7();
     p8_to_p10();
@@ -576,7 +805,15 @@ int main(int count, char **argument)
     stops();
     refusals_go_on();
     blocks();
-    failing_files();
+    account_and_twin();
+    spring();
+    doubts();
+    frames();
+    damaged();
+    wrong_use();
+    failing_files(replay_command);
+    failing_files(answer_command);
+    check(system("test ! -s case.out") == 0, "no last line where the input can't be read");
     remove("case.log");
     remove("case.out");
     printf("%d passed, %d failed\n", passed, failed);

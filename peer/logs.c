@@ -1,7 +1,7 @@
 /* Makes bench logs, the same for the same arguments on every machine.
 
    logs SEED RECORDS    one log of at most RECORDS records, biased to the edges of the rules; about
-                        one seed in four gives a damaged log
+                        one seed in four gives a damaged log, one in 32 a very short one
    logs --big MEGABYTES one long log without damage, with a mix as on a bench, for timing
 
    Random draws never share an expression with each other: C leaves their order open there. */
@@ -421,6 +421,30 @@ static void sweep_scene(struct log *l)
     put_read(l, 0x00, 63);
 }
 
+/* Ranges, set and refused, with samples, readouts and resets between them. */
+static void range_scene(struct log *l)
+{
+    int mode = any_fifo_mode(l);
+    int turns = 2 + below(l, 5);
+
+    put_write(l, 0x3E, mode);
+    while (turns-- > 0) {
+        int byte = one_in(l, 2) ? PICK(l, 0x03, 0x05, 0x08, 0x0C, 0xF5) : below(l, 256);
+        int fill = PICK(l, 0, 0, 1, 2, 5, 31, 32, 33, 36);
+        int length = any_length(l);
+
+        put_write(l, 0x0F, byte);
+        while (fill-- > 0)
+            put_any_sample(l);
+        if (one_in(l, 3))
+            disturb_fifo(l, mode);
+        if (one_in(l, 8))
+            put_write(l, 0x14, 0xB6);
+        if (!one_in(l, 3))
+            put_read(l, 0x3F, length);
+    }
+}
+
 static void reset_scene(struct log *l)
 {
     int kept = below(l, 256);
@@ -622,8 +646,8 @@ static void pins_scene(struct log *l, int fill)
 static void any_scene(struct log *l)
 {
     static void (*const scene[])(struct log *) = {
-        fifo_scene,  fifo_scene,  lock_scene, burst_scene, corner_scene, write_scene,
-        write_scene, sweep_scene, data_scene, set_pins,    motion_scene, motion_scene,
+        fifo_scene,  fifo_scene,  lock_scene, burst_scene, corner_scene, write_scene, write_scene,
+        sweep_scene, range_scene, data_scene, set_pins,    motion_scene, motion_scene,
     };
 
     if (one_in(l, 16))
@@ -660,6 +684,11 @@ static void edge_log(uint64_t seed, uint64_t records)
     int fill = PICK(&l, 0, 1, 2, 2, 3, 4, 31, 32, 33);
     uint64_t last = (uint64_t)(fill + PIN_WRITES);
 
+    if (one_in(&l, 32)) { /* a short one, down to the version byte alone */
+        uint64_t few = draw(&l) % 8;
+
+        records = few < records ? few : records;
+    }
     if (last > records)
         last = records;
     if (one_in(&l, 4)) {
