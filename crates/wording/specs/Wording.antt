@@ -1,17 +1,18 @@
 -- What the answer prints, in ASCII: a line for a stretch, a sample, a range or the totals, and the last line. `from`, `before` and
 -- `behind` are what is known at the end of the stretch before, before the record and behind it.
-use Prim.Native.Nat.{ℕ}
-use mathlib.Core.Bool.{Bool, true, false}
+use Prim.Native.Nat.{ℕ, _≤_}
+use Prim.Native.String.{String}
+use mathlib.Core.Bool.{Bool}
 use mathlib.Core.List.{List, [], _∷_, _++_}
 use lib.Dec.{eqb}
-use lib.IntN.{ℤ}
-use lib.IntN as int
-use lib.Signed.{mag}
+use lib.IntN.{ℤ, pos, natAbs}
+use lib.ListN.{length}
+use lib.Signed.{ltZ}
 use Rattle.laws.specs.Choice.{pick}
 use Rattle.codes.specs.declared.Range.{Range}
 use Rattle.codes.specs.declared.Range.the-variants.{G2, G4, G8, G16, Reserved}
-use Rattle.text.specs.Text.{ascii, decimal, hex}
-use Rattle.account.specs.Account.{sum, less, differences}
+use Rattle.text.specs.Text.{ascii, decimal, hex, Pushed}
+use Rattle.account.specs.Account.{sum, differences}
 use Rattle.account.specs.declared.Account.{Account}
 use Rattle.account.specs.declared.Counts.{Counts}
 use Rattle.account.specs.declared.Doubt.{Doubt}
@@ -24,9 +25,17 @@ use Rattle.account.specs.declared.Why.the-variants as why
 abbrev pub longestWording : ℕ
 longestWording = 256
 
--- a number, and a space behind it
+-- a text of so many bytes at most stands in out from at on, and next is the place behind it
+pub record Spelt (most : ℕ) (out : List ℕ) (at : ℕ) (text out′ : List ℕ) (next : ℕ) : Type 0 where
+  pub pushed : Pushed out at text out′ next
+  pub short : length text ≤ most
+
+-- a number, and words behind it
+abbrev pub phrase : ℕ → String → List ℕ
+phrase n words = decimal n ++ ascii words
+
 abbrev pub column : ℕ → List ℕ
-column n = decimal n ++ ascii " "
+column n = phrase n " "
 
 -- "`2g`, `4g`, `8g`, `16g`"; no other code is ever stored
 abbrev pub rangeWord : Range → List ℕ
@@ -64,55 +73,51 @@ stretchLine from before behind w =
     ++ (countsText (differences (from .counts) (behind .counts)) (behind .held)
     ++ whyLine w))))
 
--- "The last line is `end N` (N records) or `stop N R` (record N was refused R; `stop 0 7`, `stop 0 9`)": by whether the version byte is
--- past, how many records there are, and the refusal
+-- the record that was refused, by whether the version byte is past and how many records there are
+abbrev pub stoppedAt : Bool → ℕ → ℕ
+stoppedAt begun number = pick begun (sum number 1) 0
+
+-- "The last line is `end N` (N records) or `stop N R` (record N was refused R; `stop 0 7`, `stop 0 9`)"
 unfoldable pub lastLine : Bool → ℕ → ℕ → List ℕ
 lastLine begun number refusal =
     pick (eqb refusal 0)
-    (ascii "end " ++ (decimal number ++ ascii "\n"))
-    (ascii "stop " ++ (column (pick begun (sum number 1) 0) ++ (decimal refusal ++ ascii "\n")))
+    (ascii "end " ++ phrase number "\n")
+    (ascii "stop " ++ (column (stoppedAt begun number) ++ phrase refusal "\n"))
 
 -- ---- samples
-abbrev pub isNegative : ℤ → Bool
-isNegative (int.pos n) = false
-isNegative (int.negsuc n) = true
-
 -- a signed number, and a space behind it
 unfoldable pub signedColumn : ℤ → List ℕ
-signedColumn z = pick (isNegative z) (ascii "-") [] ++ column (mag z)
+signedColumn z = pick (ltZ z (pos 0)) (ascii "-") [] ++ column (natAbs z)
 
 -- "sample N X Y Z LOST": of an accepted sample, and how many its arrival lost
 unfoldable pub sampleLine : ℕ → ℤ → ℤ → ℤ → ℕ → List ℕ
-sampleLine number x y z lost = ascii "sample " ++ (column number ++ (signedColumn x ++ (signedColumn y ++ (signedColumn z ++ (decimal lost ++ ascii "\n")))))
+sampleLine number x y z lost = ascii "sample " ++ (column number ++ (signedColumn x ++ (signedColumn y ++ (signedColumn z ++ phrase lost "\n"))))
 
 -- ---- words
 -- the refused code and its record, where there is doubt
 abbrev pub doubtText : Doubt → List ℕ
 doubtText No = ascii "\n"
-doubtText (By number byte) = ascii "?, because record " ++ (decimal number ++ (ascii " wrote " ++ (hex (byte ∷ []) ++ ascii " to 0F and was refused\n")))
+doubtText (By number byte) = ascii "?, because record " ++ (phrase number " wrote " ++ (hex (byte ∷ []) ++ ascii " to 0F and was refused\n"))
 
 -- the range that is in force from the next record on
 unfoldable pub rangeLine : Account → List ℕ
-rangeLine a = ascii "from record " ++ (decimal (sum (a .number) 1) ++ (ascii ": " ++ (rangeWord (a .range) ++ doubtText (a .doubt))))
+rangeLine a = ascii "from record " ++ (phrase (sum (a .number) 1) ": " ++ (rangeWord (a .range) ++ doubtText (a .doubt)))
 
 -- the counts in between, in words
 abbrev pub totalsText : Counts → List ℕ
-totalsText n =
-    decimal (n .accepted) ++ (ascii " accepted, " ++ (decimal (n .taken) ++ (ascii " taken, " ++ (decimal (n .lost) ++ (ascii " lost, " ++ (decimal (n .cleared) ++ ascii " cleared, "))))))
+totalsText n = phrase (n .accepted) " accepted, " ++ (phrase (n .taken) " taken, " ++ (phrase (n .lost) " lost, " ++ phrase (n .cleared) " cleared, "))
 
 abbrev pub heldText : ℕ → ℕ → List ℕ
-heldText before behind = decimal before ++ (ascii " held before, " ++ (decimal behind ++ ascii " held after\n"))
+heldText before behind = phrase before " held before, " ++ phrase behind " held after\n"
 
 -- what came after `from`, up to `to`
 unfoldable pub totalsLine : Account → Account → List ℕ
 totalsLine from to =
     ascii "records "
-    ++ (decimal (sum (from .number) 1)
-    ++ (ascii " to "
-    ++ (decimal (to .number)
-    ++ (ascii ": "
+    ++ (phrase (sum (from .number) 1) " to "
+    ++ (phrase (to .number) ": "
     ++ (totalsText (differences (from .counts) (to .counts))
-    ++ heldText (from .held) (to .held))))))
+    ++ heldText (from .held) (to .held))))
 
 -- the log stopped after so many records, by a refusal (0 where it ended), before the record that was asked for
 abbrev pub endedWord : ℕ → List ℕ
@@ -122,4 +127,4 @@ unfoldable pub shortLine : ℕ → ℕ → ℕ → List ℕ
 shortLine refusal number asked =
     endedWord refusal
     ++ (ascii " after record "
-    ++ (decimal number ++ (ascii "; what came up to record " ++ (decimal asked ++ ascii " is not known\n"))))
+    ++ (phrase number "; what came up to record " ++ phrase asked " is not known\n"))

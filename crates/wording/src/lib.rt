@@ -1,12 +1,13 @@
 // What the answer prints, written into a lent buffer: a line for a stretch, a sample, a range or the totals, and the last line. A line
 // for which there may not be room is not begun.
 ghost use mathlib.Core.Path.{_≡_};
-ghost use mathlib.Core.List.{[], _∷_};
+ghost use mathlib.Core.List.{[], _∷_, _++_};
 ghost use Prim.Native.Nat.{_+_, _≤_};
 ghost use lib.ListN.{length};
 ghost use Rattle.benchlog.specs.Writer.{lacksRoom};
 ghost use Rattle.text.specs.Text.{mostDigits, decimal, hex, Pushed, leftIn, placeAfter};
-ghost use Rattle.wording.specs.Wording.{longestWording, column, rangeWord, doubtMark, whyLine, countsText, stretchLine, lastLine, signedColumn, sampleLine, doubtText, rangeLine, totalsText, heldText, totalsLine, endedWord, shortLine};
+ghost use Rattle.account.specs.Account.{sum};
+ghost use Rattle.wording.specs.Wording.{longestWording, Spelt, column, rangeWord, doubtMark, whyLine, countsText, stretchLine, stoppedAt, lastLine, signedColumn, sampleLine, doubtText, rangeLine, totalsText, heldText, totalsLine, endedWord, shortLine};
 use account::Account;
 use account::Counts;
 use account::Doubt;
@@ -22,36 +23,68 @@ pub const LONGEST_WORDING: usize = 256;
 fn lacks_room(room: usize, at: usize) -> bool
     ensures { λ r. ⌜ r ≡ lacksRoom room at longestWording ⌝ }
 {
-    if room < at { true } else { room - at < LONGEST_WORDING }
+    if room < at {
+        true
+    } else {
+        room - at < LONGEST_WORDING
+    }
+}
+
+// The record behind so many.
+fn next(number: u64) -> u64
+    ensures { λ r. ⌜ r ≡ sum number 1 ⌝ }
+{
+    std::num::wrapping_add_u64(number, 1)
+}
+
+// The record that was refused.
+fn stopped_at(begun: bool, records: u64) -> u64
+    ensures { λ r. ⌜ r ≡ stoppedAt begun records ⌝ }
+{
+    if begun { next(records) } else { 0 }
 }
 
 // ---- pieces, for which there is room
 fn number(out: &mut [u8], at: usize, n: u64) -> usize
     requires { ⌜ at + mostDigits ≤ length (now out) ⌝ }
-    ensures { λ r. ⌜ Pushed (now (out .entry)) at (decimal n) (now (out .exit)) r ⌝ }
+    ensures { λ r. ⌜ Spelt mostDigits (now (out .entry)) at (decimal n) (now (out .exit)) r ⌝ }
 {
     put_number(out, at, n)
 }
 
 fn word(out: &mut [u8], at: usize, letters: &[u8]) -> usize
     requires { ⌜ at + length (now letters) ≤ length (now out) ⌝ }
-    ensures { λ r. ⌜ Pushed (now (out .entry)) at (now (letters .entry)) (now (out .exit)) r ⌝ }
+    ensures { λ r. ⌜ Spelt (length (now (letters .entry))) (now (out .entry)) at (now (letters .entry)) (now (out .exit)) r ⌝ }
 {
     put_word(out, at, letters)
 }
 
-// A number, and a space behind it.
-fn put_column(out: &mut [u8], at: usize, n: u64) -> usize
-    requires { ⌜ at + mostDigits + 1 ≤ length (now out) ⌝ }
-    ensures { λ r. ⌜ Pushed (now (out .entry)) at (column n) (now (out .exit)) r ⌝ }
+fn in_hex(out: &mut [u8], at: usize, byte: u8) -> usize
+    requires { ⌜ at + 2 ≤ length (now out) ⌝ }
+    ensures { λ r. ⌜ Spelt 2 (now (out .entry)) at (hex (byte ∷ [])) (now (out .exit)) r ⌝ }
+{
+    put_in_hex(out, at, byte)
+}
+
+// A number, and words behind it.
+fn phrase(out: &mut [u8], at: usize, n: u64, words: &[u8]) -> usize
+    requires { ⌜ at + (mostDigits + length (now words)) ≤ length (now out) ⌝ }
+    ensures { λ r. ⌜ Spelt (mostDigits + length (now (words .entry))) (now (out .entry)) at (decimal n ++ now (words .entry)) (now (out .exit)) r ⌝ }
 {
     let to = number(&mut *out, at, n);
-    word(out, to, b" ")
+    word(out, to, words)
+}
+
+fn put_column(out: &mut [u8], at: usize, n: u64) -> usize
+    requires { ⌜ at + 21 ≤ length (now out) ⌝ }
+    ensures { λ r. ⌜ Spelt 21 (now (out .entry)) at (column n) (now (out .exit)) r ⌝ }
+{
+    phrase(out, at, n, b" ")
 }
 
 fn put_range_word(out: &mut [u8], at: usize, range: Range) -> usize
     requires { ⌜ at + 3 ≤ length (now out) ⌝ }
-    ensures { λ r. ⌜ Pushed (now (out .entry)) at (rangeWord range) (now (out .exit)) r ⌝ }
+    ensures { λ r. ⌜ Spelt 3 (now (out .entry)) at (rangeWord range) (now (out .exit)) r ⌝ }
 {
     match range {
         Range::G2 => word(out, at, b"2g"),
@@ -64,7 +97,7 @@ fn put_range_word(out: &mut [u8], at: usize, range: Range) -> usize
 
 fn put_doubt_mark(out: &mut [u8], at: usize, doubt: Doubt) -> usize
     requires { ⌜ at + 2 ≤ length (now out) ⌝ }
-    ensures { λ r. ⌜ Pushed (now (out .entry)) at (doubtMark doubt) (now (out .exit)) r ⌝ }
+    ensures { λ r. ⌜ Spelt 2 (now (out .entry)) at (doubtMark doubt) (now (out .exit)) r ⌝ }
 {
     match doubt {
         Doubt::No => word(out, at, b" "),
@@ -74,7 +107,7 @@ fn put_doubt_mark(out: &mut [u8], at: usize, doubt: Doubt) -> usize
 
 fn put_why(out: &mut [u8], at: usize, why: Why) -> usize
     requires { ⌜ at + 8 ≤ length (now out) ⌝ }
-    ensures { λ r. ⌜ Pushed (now (out .entry)) at (whyLine why) (now (out .exit)) r ⌝ }
+    ensures { λ r. ⌜ Spelt 8 (now (out .entry)) at (whyLine why) (now (out .exit)) r ⌝ }
 {
     match why {
         Why::Nothing => word(out, at, b"rest\n"),
@@ -88,7 +121,7 @@ fn put_why(out: &mut [u8], at: usize, why: Why) -> usize
 // Six columns.
 fn put_counts(out: &mut [u8], at: usize, counts: Counts, held: u64) -> usize
     requires { ⌜ at + 126 ≤ length (now out) ⌝ }
-    ensures { λ r. ⌜ Pushed (now (out .entry)) at (countsText counts held) (now (out .exit)) r ⌝ }
+    ensures { λ r. ⌜ Spelt 126 (now (out .entry)) at (countsText counts held) (now (out .exit)) r ⌝ }
 {
     let to = put_column(&mut *out, at, counts.accepted);
     let to = put_column(&mut *out, to, counts.taken);
@@ -100,8 +133,8 @@ fn put_counts(out: &mut [u8], at: usize, counts: Counts, held: u64) -> usize
 
 // A signed number, and a space behind it.
 fn put_signed(out: &mut [u8], at: usize, n: i16) -> usize
-    requires { ⌜ at + mostDigits + 2 ≤ length (now out) ⌝ }
-    ensures { λ r. ⌜ Pushed (now (out .entry)) at (signedColumn n) (now (out .exit)) r ⌝ }
+    requires { ⌜ at + 22 ≤ length (now out) ⌝ }
+    ensures { λ r. ⌜ Spelt 22 (now (out .entry)) at (signedColumn n) (now (out .exit)) r ⌝ }
 {
     let wide = n as i32;
     if wide < 0 {
@@ -113,46 +146,39 @@ fn put_signed(out: &mut [u8], at: usize, n: i16) -> usize
 
 // The refused code and its record, where there is doubt, and the line's end.
 fn put_doubt(out: &mut [u8], at: usize, doubt: Doubt) -> usize
-    requires { ⌜ at + 72 ≤ length (now out) ⌝ }
-    ensures { λ r. ⌜ Pushed (now (out .entry)) at (doubtText doubt) (now (out .exit)) r ⌝ }
+    requires { ⌜ at + 70 ≤ length (now out) ⌝ }
+    ensures { λ r. ⌜ Spelt 70 (now (out .entry)) at (doubtText doubt) (now (out .exit)) r ⌝ }
 {
-    let Doubt::By(record, byte) = doubt else {
+    let Doubt::By(nth, byte) = doubt else {
         return word(out, at, b"\n");
     };
     let to = word(&mut *out, at, b"?, because record ");
-    let to = number(&mut *out, to, record);
-    let to = word(&mut *out, to, b" wrote ");
-    let to = put_in_hex(&mut *out, to, byte);
+    let to = phrase(&mut *out, to, nth, b" wrote ");
+    let to = in_hex(&mut *out, to, byte);
     word(out, to, b" to 0F and was refused\n")
 }
 
 fn put_totals_text(out: &mut [u8], at: usize, counts: Counts) -> usize
     requires { ⌜ at + 116 ≤ length (now out) ⌝ }
-    ensures { λ r. ⌜ Pushed (now (out .entry)) at (totalsText counts) (now (out .exit)) r ⌝ }
+    ensures { λ r. ⌜ Spelt 116 (now (out .entry)) at (totalsText counts) (now (out .exit)) r ⌝ }
 {
-    let to = number(&mut *out, at, counts.accepted);
-    let to = word(&mut *out, to, b" accepted, ");
-    let to = number(&mut *out, to, counts.taken);
-    let to = word(&mut *out, to, b" taken, ");
-    let to = number(&mut *out, to, counts.lost);
-    let to = word(&mut *out, to, b" lost, ");
-    let to = number(&mut *out, to, counts.cleared);
-    word(out, to, b" cleared, ")
+    let to = phrase(&mut *out, at, counts.accepted, b" accepted, ");
+    let to = phrase(&mut *out, to, counts.taken, b" taken, ");
+    let to = phrase(&mut *out, to, counts.lost, b" lost, ");
+    phrase(out, to, counts.cleared, b" cleared, ")
 }
 
 fn put_held(out: &mut [u8], at: usize, before: u64, behind: u64) -> usize
     requires { ⌜ at + 66 ≤ length (now out) ⌝ }
-    ensures { λ r. ⌜ Pushed (now (out .entry)) at (heldText before behind) (now (out .exit)) r ⌝ }
+    ensures { λ r. ⌜ Spelt 66 (now (out .entry)) at (heldText before behind) (now (out .exit)) r ⌝ }
 {
-    let to = number(&mut *out, at, before);
-    let to = word(&mut *out, to, b" held before, ");
-    let to = number(&mut *out, to, behind);
-    word(out, to, b" held after\n")
+    let to = phrase(&mut *out, at, before, b" held before, ");
+    phrase(out, to, behind, b" held after\n")
 }
 
 fn put_ended(out: &mut [u8], at: usize, refusal: u8) -> usize
     requires { ⌜ at + 40 ≤ length (now out) ⌝ }
-    ensures { λ r. ⌜ Pushed (now (out .entry)) at (endedWord refusal) (now (out .exit)) r ⌝ }
+    ensures { λ r. ⌜ Spelt 40 (now (out .entry)) at (endedWord refusal) (now (out .exit)) r ⌝ }
 {
     if refusal == 0 {
         return word(out, at, b"the log ends");
@@ -162,14 +188,21 @@ fn put_ended(out: &mut [u8], at: usize, refusal: u8) -> usize
 }
 
 // ---- lines, for which there is room
-fn write_stretch(out: &mut [u8], at: usize, from: Account, before: Account, behind: Account, why: Why) -> usize
+fn write_stretch(
+    out: &mut [u8],
+    at: usize,
+    from: Account,
+    before: Account,
+    behind: Account,
+    why: Why,
+) -> usize
     requires { ⌜ at + longestWording ≤ length (now out) ⌝ }
     ensures { λ r. ⌜ Pushed (now (out .entry)) at (stretchLine from before behind why) (now (out .exit)) r ⌝ }
 {
     let counts = behind.counts;
     let range = before.range;
     let doubt = before.doubt;
-    let to = put_column(&mut *out, at, std::num::wrapping_add_u64(from.number, 1));
+    let to = put_column(&mut *out, at, next(from.number));
     let to = put_column(&mut *out, to, behind.number);
     let to = put_range_word(&mut *out, to, range);
     let to = put_doubt_mark(&mut *out, to, doubt);
@@ -183,27 +216,23 @@ fn write_last(out: &mut [u8], at: usize, begun: bool, records: u64, refusal: u8)
 {
     if refusal == 0 {
         let to = word(&mut *out, at, b"end ");
-        let to = number(&mut *out, to, records);
-        return word(out, to, b"\n");
+        return phrase(out, to, records, b"\n");
     }
-    let stopped = if begun { std::num::wrapping_add_u64(records, 1) } else { 0 };
     let to = word(&mut *out, at, b"stop ");
-    let to = put_column(&mut *out, to, stopped);
-    let to = number(&mut *out, to, refusal as u64);
-    word(out, to, b"\n")
+    let to = put_column(&mut *out, to, stopped_at(begun, records));
+    phrase(out, to, refusal as u64, b"\n")
 }
 
-fn write_sample(out: &mut [u8], at: usize, record: u64, x: i16, y: i16, z: i16, lost: u64) -> usize
+fn write_sample(out: &mut [u8], at: usize, nth: u64, x: i16, y: i16, z: i16, lost: u64) -> usize
     requires { ⌜ at + longestWording ≤ length (now out) ⌝ }
-    ensures { λ r. ⌜ Pushed (now (out .entry)) at (sampleLine record x y z lost) (now (out .exit)) r ⌝ }
+    ensures { λ r. ⌜ Pushed (now (out .entry)) at (sampleLine nth x y z lost) (now (out .exit)) r ⌝ }
 {
     let to = word(&mut *out, at, b"sample ");
-    let to = put_column(&mut *out, to, record);
+    let to = put_column(&mut *out, to, nth);
     let to = put_signed(&mut *out, to, x);
     let to = put_signed(&mut *out, to, y);
     let to = put_signed(&mut *out, to, z);
-    let to = number(&mut *out, to, lost);
-    word(out, to, b"\n")
+    phrase(out, to, lost, b"\n")
 }
 
 fn write_range(out: &mut [u8], at: usize, account: Account) -> usize
@@ -213,8 +242,7 @@ fn write_range(out: &mut [u8], at: usize, account: Account) -> usize
     let range = account.range;
     let doubt = account.doubt;
     let to = word(&mut *out, at, b"from record ");
-    let to = number(&mut *out, to, std::num::wrapping_add_u64(account.number, 1));
-    let to = word(&mut *out, to, b": ");
+    let to = phrase(&mut *out, to, next(account.number), b": ");
     let to = put_range_word(&mut *out, to, range);
     put_doubt(out, to, doubt)
 }
@@ -225,10 +253,8 @@ fn write_totals(out: &mut [u8], at: usize, from: Account, upto: Account) -> usiz
 {
     let counts = upto.counts;
     let to = word(&mut *out, at, b"records ");
-    let to = number(&mut *out, to, std::num::wrapping_add_u64(from.number, 1));
-    let to = word(&mut *out, to, b" to ");
-    let to = number(&mut *out, to, upto.number);
-    let to = word(&mut *out, to, b": ");
+    let to = phrase(&mut *out, to, next(from.number), b" to ");
+    let to = phrase(&mut *out, to, upto.number, b": ");
     let to = put_totals_text(&mut *out, to, counts.since(from.counts));
     put_held(out, to, from.held, upto.held)
 }
@@ -239,15 +265,20 @@ fn write_short(out: &mut [u8], at: usize, refusal: u8, records: u64, asked: u64)
 {
     let to = put_ended(&mut *out, at, refusal);
     let to = word(&mut *out, to, b" after record ");
-    let to = number(&mut *out, to, records);
-    let to = word(&mut *out, to, b"; what came up to record ");
-    let to = number(&mut *out, to, asked);
-    word(out, to, b" is not known\n")
+    let to = phrase(&mut *out, to, records, b"; what came up to record ");
+    phrase(out, to, asked, b" is not known\n")
 }
 
 // ---- lines from a place on: the place behind it. Where there may not be room nothing is written and the place is given back
 // A stretch: what is known at the end of the one before, before its last record and behind it, and why it ended.
-pub fn put_stretch(out: &mut [u8], at: usize, from: Account, before: Account, behind: Account, why: Why) -> usize
+pub fn put_stretch(
+    out: &mut [u8],
+    at: usize,
+    from: Account,
+    before: Account,
+    behind: Account,
+    why: Why,
+) -> usize
     ensures { λ r. ⌜ (r ≡ placeAfter longestWording (now (out .entry)) at (stretchLine from before behind why)) × (now (out .exit) ≡ leftIn longestWording (now (out .entry)) at (stretchLine from before behind why)) ⌝ }
 {
     if lacks_room(out.len(), at) {
@@ -267,13 +298,13 @@ pub fn put_last(out: &mut [u8], at: usize, begun: bool, records: u64, refusal: u
 }
 
 // An accepted sample, and how many its arrival lost.
-pub fn put_sample(out: &mut [u8], at: usize, record: u64, x: i16, y: i16, z: i16, lost: u64) -> usize
-    ensures { λ r. ⌜ (r ≡ placeAfter longestWording (now (out .entry)) at (sampleLine record x y z lost)) × (now (out .exit) ≡ leftIn longestWording (now (out .entry)) at (sampleLine record x y z lost)) ⌝ }
+pub fn put_sample(out: &mut [u8], at: usize, nth: u64, x: i16, y: i16, z: i16, lost: u64) -> usize
+    ensures { λ r. ⌜ (r ≡ placeAfter longestWording (now (out .entry)) at (sampleLine nth x y z lost)) × (now (out .exit) ≡ leftIn longestWording (now (out .entry)) at (sampleLine nth x y z lost)) ⌝ }
 {
     if lacks_room(out.len(), at) {
         return at;
     }
-    write_sample(out, at, record, x, y, z, lost)
+    write_sample(out, at, nth, x, y, z, lost)
 }
 
 // The range from the next record on.
