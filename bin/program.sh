@@ -50,7 +50,11 @@ crates_of() { # NAME
 
 # The stamp, of what it is made of and what it is: its sources, its own bytes, and the kit.
 sources_now() {
-    (cd "$top" && { grep -v '^#' crates.txt; for each in $(crates_of "$crate"); do find "crates/$each" -type f -not -path '*/must-fail/*' | LC_ALL=C sort | xargs cksum; done; } | cksum)
+    (
+        cd "$top" || exit
+        grep -v '^#' crates.txt
+        for each in $(crates_of "$crate"); do find "crates/$each" -type f -not -path '*/must-fail/*'; done | LC_ALL=C sort | xargs cksum
+    ) | cksum
 }
 made_now() { cksum 2>/dev/null <"$made"; }
 stamp_now() {
