@@ -125,6 +125,8 @@ start() { # ARG..
 # How far a long log is, on standard error where that is a terminal and the text goes elsewhere: a line that is written anew each second
 # and wiped at the end. A descriptor that is handed on shares its place in the file, so the place of this process is the program's.
 long=16777216
+to_terminal= # the command's own output, whatever stands between it and the program
+[ ! -t 1 ] || to_terminal=yes
 in_front() { IFS= read -r fields </proc/self/stat && set -- ${fields##*) } && [ "$3" = "$6" ]; } # its group has the terminal
 show_far() { # SIZE, and the log on descriptor 5
     shown= label=$log
@@ -142,11 +144,11 @@ show_far() { # SIZE, and the log on descriptor 5
 }
 watcher=
 watch_log() {
-    [ -t 2 ] && [ ! -t 1 ] && [ -f /proc/self/fd/0 ] && [ -r /proc/self/fdinfo/0 ] || return 0
+    [ -t 2 ] && [ -z "$to_terminal" ] && [ -f /proc/self/fd/0 ] && [ -r /proc/self/fdinfo/0 ] || return 0
     size=$(stat -Lc %s /proc/self/fd/0 2>/dev/null) && [ "$size" -gt "$long" ] || return 0
     { show_far "$size" >/dev/null & } 5<&0
     watcher=$!
-    trap 'unwatch; kill -s INT $$' INT # which the watcher does not see
+    trap 'unwatch; kill -s INT $$; exit 130' INT # which the watcher does not see
 }
 unwatch() {
     [ -n "$watcher" ] || return 0
