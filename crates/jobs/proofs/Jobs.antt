@@ -3,7 +3,7 @@
 use Prim.Native.Nat.{ℕ}
 use mathlib.Core.Bool.{Bool, true, false}
 use mathlib.Core.List.{List}
-use mathlib.Core.Path.{_≡_, refl, sym}
+use mathlib.Core.Path.{_≡_, refl}
 use Rattle.laws.specs.Choice.{pick}
 use Rattle.benchlog.specs.declared.Entry.{Entry}
 use Rattle.follow.specs.Teller.{Teller, Lawful}
