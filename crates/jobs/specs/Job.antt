@@ -1,11 +1,8 @@
 -- Who follows a log for a program: the replay, or the answer.
 use Prim.Native.Nat.{ℕ, _-_}
-use mathlib.Core.Bool.{Bool, true, false}
-use mathlib.Core.List.{List}
-use mathlib.Core.Path.{_≡_}
+use mathlib.Core.Bool.{true, false}
 use Rattle.laws.specs.Choice.{pick}
-use Rattle.benchlog.specs.declared.Entry.{Entry}
-use Rattle.follow.specs.Teller.{Teller, Lawful}
+use Rattle.follow.specs.Teller.{Teller}
 use Rattle.playback.specs.Replay as replay
 use Rattle.playback.specs.Replay.{replayer}
 use Rattle.playback.specs.declared.Replay.{Replay}

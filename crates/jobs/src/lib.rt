@@ -1,4 +1,6 @@
 // Who follows a log for a program: the replay, or the answer. One pump serves both.
+ghost use Prim.Native.Nat.{_-_};
+ghost use mathlib.Core.Bool.{true, false};
 ghost use mathlib.Core.Path.{_≡_};
 ghost use lib.ListN.{length};
 ghost use Rattle.follow.specs.Follow.{runOf, Running};

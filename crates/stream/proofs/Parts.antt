@@ -11,29 +11,33 @@ use lib.Dec.{eqb}
 use lib.ListN.{length, drop}
 use Rattle.follow.specs.Follow.{runOf}
 use Rattle.follow.specs.declared.Next.the-variants.{Wait, Full, Stop}
-use Rattle.follow.specs.Whole.{Pumped, stopped, emptied, filled, ended, joined}
+use Rattle.follow.specs.Whole.{Pumped, stopped, emptied, filled, ended, joined, printedFrom}
 use Rattle.follow.proofs.Stream.{waits, any-division}
-use Rattle.playback.specs.Replay.{start, replayer, replays, printed}
-use Rattle.playback.specs.declared.Replay.{Replay}
+use Rattle.playback.specs.Replay as replay
+use Rattle.answers.specs.Answer as answer
+use Rattle.answers.specs.declared.Asked.{Asked}
+use Rattle.jobs.specs.Job.{toReplay, toAnswer, worker}
+use Rattle.jobs.specs.declared.Job.{Job}
+use Rattle.jobs.proofs.Jobs.{works, replay-printed, answer-printed}
 use Rattle.stream.specs.declared.State.{State}
 use Rattle.stream.specs.Pump as pump
 use Rattle.stream.specs.Pump.{pumpStart, unused, ranOver, afterRun, atFront, withRead, Refilled, NoneEmpty, nextPart, laterParts, Turns}
 use Rattle.stream.proofs.Places.{unused-after}
 
--- a pump with the replay, the bytes at hand and the mark of the end of a state
+-- a pump with the job, the bytes at hand and the mark of the end of a state
 abbrev PumpedAt : State → List ℕ → List (List ℕ) → List ℕ → Type 0
-PumpedAt s buffer parts text = Pumped replayer (s .replay) (unused s buffer) parts (s .last) text
+PumpedAt s buffer parts text = Pumped worker (s .job) (unused s buffer) parts (s .last) text
 
 -- the two steps of a pump that waits, where the end of the input is not known
-module _ (r : Replay) (bytes : List ℕ) (room : ℕ) {text : List ℕ} where
-  part-step : (last : Bool) (part : List ℕ) (parts : List (List ℕ)) → last ≡ false → runOf replayer r bytes last room .next ≡ Wait
-      → Pumped replayer (runOf replayer r bytes last room .state) (drop (runOf replayer r bytes last room .at) bytes ++ part) parts false text
-      → Pumped replayer r bytes (part ∷ parts) last (runOf replayer r bytes last room .text ++ text)
+module _ (j : Job) (bytes : List ℕ) (room : ℕ) {text : List ℕ} where
+  part-step : (last : Bool) (part : List ℕ) (parts : List (List ℕ)) → last ≡ false → runOf worker j bytes last room .next ≡ Wait
+      → Pumped worker (runOf worker j bytes last room .state) (drop (runOf worker j bytes last room .at) bytes ++ part) parts false text
+      → Pumped worker j bytes (part ∷ parts) last (runOf worker j bytes last room .text ++ text)
   part-step true part parts q e p = let z : _≡_ {A = ℕ} 0 1 = cc in absurd (omega arith)
   part-step false part parts q e p = filled room e p
 
-  end-step : (last : Bool) → last ≡ false → runOf replayer r bytes last room .next ≡ Wait
-      → Pumped replayer (runOf replayer r bytes last room .state) (drop (runOf replayer r bytes last room .at) bytes ++ []) [] true text → Pumped replayer r bytes [] last (runOf replayer r bytes last room .text ++ text)
+  end-step : (last : Bool) → last ≡ false → runOf worker j bytes last room .next ≡ Wait
+      → Pumped worker (runOf worker j bytes last room .state) (drop (runOf worker j bytes last room .at) bytes ++ []) [] true text → Pumped worker j bytes [] last (runOf worker j bytes last room .text ++ text)
   end-step true q e p = let z : _≡_ {A = ℕ} 0 1 = cc in absurd (omega arith)
   end-step false q e p = ended room e (rw append-nil at p)
 
@@ -45,17 +49,17 @@ module _ (s : State) (buffer : List ℕ) (room : ℕ) {s′ : State} {buffer′ 
 
   -- what the next run sees
   sees : (part : List ℕ) (last : Bool) {parts : List (List ℕ)} {text : List ℕ} → r .part ≡ part → eqb (length part) 0 ≡ last → PumpedAt s′ buffer′ parts text
-      → Pumped replayer (ranOver s buffer room .state) (drop (ranOver s buffer room .at) (unused s buffer) ++ part) parts last text
+      → Pumped worker (ranOver s buffer room .state) (drop (ranOver s buffer room .at) (unused s buffer) ++ part) parts last text
   sees part last {parts} {text} p q later =
-      let replay-is : s′ .replay ≡ ranOver s buffer room .state = ap (λ (t : State). t .replay) (r .state) in
+      let job-is : s′ .job ≡ ranOver s buffer room .state = ap (λ (t : State). t .job) (r .state) in
       let last-is : s′ .last ≡ last = ap (λ (t : State). t .last) (r .state) ∙ ap (λ (t : List ℕ). eqb (length t) 0) p ∙ q in
-      rw (bytes-are, p, replay-is, last-is) at later
+      rw (bytes-are, p, job-is, last-is) at later
 
   read-step : (parts : List (List ℕ)) {text : List ℕ} → NoneEmpty parts → r .part ≡ nextPart parts → PumpedAt s′ buffer′ (laterParts parts) text
       → PumpedAt s buffer parts (ranOver s buffer room .text ++ text)
-  read-step [] some p later = end-step (s .replay) (unused s buffer) room (s .last) (waits replayer replays (s .replay) (unused s buffer) (s .last) room e .0) e (sees [] true p refl later)
+  read-step [] some p later = end-step (s .job) (unused s buffer) room (s .last) (waits worker works (s .job) (unused s buffer) (s .last) room e .0) e (sees [] true p refl later)
   read-step (part ∷ parts) some p later =
-      part-step (s .replay) (unused s buffer) room (s .last) part parts (waits replayer replays (s .replay) (unused s buffer) (s .last) room e .0) e (sees part false p (ne-eqb (length part) 0 (λ z. omega (arith, some .0))) later)
+      part-step (s .job) (unused s buffer) room (s .last) part parts (waits worker works (s .job) (unused s buffer) (s .last) room e .0) e (sees part false p (ne-eqb (length part) 0 (λ z. omega (arith, some .0))) later)
 
 -- each turn is a step of the pump
 pub turns-pumped : {s : State} {buffer : List ℕ} {parts : List (List ℕ)} {text : List ℕ} → NoneEmpty parts → Turns s buffer parts text → PumpedAt s buffer parts text
@@ -67,7 +71,14 @@ turns-pumped {s} {buffer} {parts} some (pump.refilled room e r p t) = read-step 
     rest-some [] some = tt
     rest-some (part ∷ ps) some = some .1
 
--- what the program prints of a log that comes in any parts
-pub pump-prints : (parts : List (List ℕ)) {buffer text : List ℕ} → NoneEmpty parts → Turns pumpStart buffer parts text → text ≡ printed (joined parts)
-unfolding start unused
-pump-prints parts {buffer} some t = any-division replayer replays start parts (turns-pumped some t)
+-- what a program prints of a log that comes in any parts
+pub pump-prints : (j : Job) (parts : List (List ℕ)) {buffer text : List ℕ} → NoneEmpty parts → Turns (pumpStart j) buffer parts text → text ≡ printedFrom worker j (joined parts)
+unfolding unused
+pump-prints j parts {buffer} some t = any-division worker works j parts (turns-pumped some t)
+
+pub replay-prints : (parts : List (List ℕ)) {buffer text : List ℕ} → NoneEmpty parts → Turns (pumpStart toReplay) buffer parts text → text ≡ replay.printed (joined parts)
+replay-prints parts some t = pump-prints toReplay parts some t ∙ replay-printed (joined parts)
+
+pub answer-prints : (asked : Asked) (parts : List (List ℕ)) {buffer text : List ℕ} → NoneEmpty parts → Turns (pumpStart (toAnswer asked)) buffer parts text
+    → text ≡ answer.printed asked (joined parts)
+answer-prints asked parts some t = pump-prints (toAnswer asked) parts some t ∙ answer-printed asked (joined parts)

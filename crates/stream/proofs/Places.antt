@@ -9,7 +9,7 @@ use lib.Seq.{take-add, take-at, drop-at, take-take, drop-drop, length-take-le, t
 use Rattle.laws.specs.Bytes.{between, movedForward}
 use Rattle.laws.proofs.Bytes.{length-between}
 use borrow.Rule.Slice.PartMut.{putMid, postOf}
-use Rattle.playback.specs.declared.Replay.{Replay}
+use Rattle.jobs.specs.declared.Job.{Job}
 use Rattle.stream.specs.declared.State.{State}
 use Rattle.stream.specs.Pump.{Within, unused, afterRun, atFront, withRead, Refilled}
 
@@ -25,9 +25,9 @@ module _ (from to : ℕ) (s : List ℕ) (up : from ≤ to) (fits : to ≤ length
   length-part = length-between from to s ∙ omega arith
 
 -- what a run used is past
-pub unused-after : (s : State) (r : Replay) (used : ℕ) (buffer : List ℕ) → unused (afterRun s r used) buffer ≡ drop used (unused s buffer)
+pub unused-after : (s : State) (j : Job) (used : ℕ) (buffer : List ℕ) → unused (afterRun s j used) buffer ≡ drop used (unused s buffer)
 unfolding unused
-unused-after s r used buffer = sym (drop-drop used (s .from) (take (s .to) buffer))
+unused-after s j used buffer = sym (drop-drop used (s .from) (take (s .to) buffer))
 
 pub length-unused : (s : State) (buffer : List ℕ) → Within s (length buffer) → length (unused s buffer) ≡ s .to - s .from
 unfolding unused

@@ -14,8 +14,9 @@ use Rattle.follow.specs.Follow.{Running, runOf}
 use Rattle.follow.specs.declared.Next.{Next}
 use Rattle.follow.specs.declared.Next.the-variants.{Go, Wait, Full, Stop}
 use Rattle.follow.proofs.Stream.{never-go, waits, used-within}
-use Rattle.playback.specs.Replay.{replayer, replays}
-use Rattle.playback.specs.declared.Ran.{Ran}
+use Rattle.jobs.specs.Job.{worker}
+use Rattle.jobs.specs.declared.Ran.{Ran}
+use Rattle.jobs.proofs.Jobs.{works}
 use Rattle.stream.specs.declared.State.{State}
 use Rattle.stream.specs.declared.How.{How}
 use Rattle.stream.specs.declared.How.the-variants.{On, Stopped, NotRead, NotWritten}
@@ -28,16 +29,16 @@ is-waiting Wait e = refl
 is-waiting Full e = let z : _≡_ {A = ℕ} 0 1 = cc in absurd (omega arith)
 is-waiting Stop e = let z : _≡_ {A = ℕ} 0 1 = cc in absurd (omega arith)
 
-module _ (s : State) (buffer : List ℕ) (room : ℕ) {ran : Ran} {out out′ : List ℕ} (within : Within s (length buffer)) (is : Running replayer out (ranOver s buffer room) out′ (ran .next) (ran .refusal) (ran .replay) (ran .used) (ran .to)) where
+module _ (s : State) (buffer : List ℕ) (room : ℕ) {ran : Ran} {out out′ : List ℕ} (within : Within s (length buffer)) (is : Running worker out (ranOver s buffer room) out′ (ran .next) (ran .refusal) (ran .job) (ran .used) (ran .to)) where
   abbrev next : State
-  next = afterRun s (ran .replay) (ran .used)
+  next = afterRun s (ran .job) (ran .used)
 
   next-is : next ≡ afterRun s (ranOver s buffer room .state) (ranOver s buffer room .at)
   next-is = rw (is .state-is, is .used-is)
 
   -- what is used was there
   pub used-there : s .from + ran .used ≤ s .to
-  used-there = omega (arith, used-within replayer (unused s buffer) (s .last) (s .replay) room, is .used-is, length-unused s buffer within)
+  used-there = omega (arith, used-within worker (unused s buffer) (s .last) (s .job) room, is .used-is, length-unused s buffer within)
 
   next-within : Within next (length buffer)
   next-within = (used-there, within .1)
@@ -48,13 +49,13 @@ module _ (s : State) (buffer : List ℕ) (room : ℕ) {ran : Ran} {out out′ : 
 
   -- where it waits, less than a record is left
   pub little-left : ran .next ≡ Wait → length (unused next buffer) < lengthField + longestBody
-  little-left e = rw (unused-after s (ran .replay) (ran .used) buffer, is .used-is) (few-undecided _ (waits replayer replays (s .replay) (unused s buffer) (s .last) room (sym (is .next-is) ∙ e) .1))
+  little-left e = rw (unused-after s (ran .job) (ran .used) buffer, is .used-is) (few-undecided _ (waits worker works (s .job) (unused s buffer) (s .last) room (sym (is .next-is) ∙ e) .1))
 
   pub turned-on : isWait (ran .next) ≡ false → TurnedAs (howAfter (ran .next) (ran .refusal)) s buffer room next buffer
   turned-on = go (ran .next) refl
     where
       go : (n : Next) → ran .next ≡ n → isWait n ≡ false → TurnedAs (howAfter n (ran .refusal)) s buffer room next buffer
-      go Go e f = absurd (never-go replayer replays (s .replay) (unused s buffer) (s .last) room (sym (is .next-is) ∙ e))
+      go Go e f = absurd (never-go worker works (s .job) (unused s buffer) (s .last) room (sym (is .next-is) ∙ e))
       go Wait e f = let z : _≡_ {A = ℕ} 0 1 = cc in absurd (omega arith)
       go Full e f = (emptied (sym (is .next-is) ∙ e) next-is refl, next-within)
       go Stop e f = (sym (is .next-is) ∙ e, sym (is .refusal-is))

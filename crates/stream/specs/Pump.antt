@@ -1,5 +1,5 @@
--- How a log goes from its input through the replay to its output: what the pump does around its two calls, read and write.
-use Prim.Native.Nat.{ℕ, _+_, _-_, _≤_, _<_}
+-- How a log goes from its input through a job to its output: what the pump does around its two calls, read and write.
+use Prim.Native.Nat.{ℕ, _+_, _≤_, _<_}
 use mathlib.Core.Path.{_≡_}
 use mathlib.Core.Bool.{Bool, true, false}
 use mathlib.Core.List.{List, [], _∷_, _++_}
@@ -10,16 +10,16 @@ use Rattle.laws.specs.Bytes.{between}
 use Rattle.follow.specs.Follow.{Turn, runOf}
 use Rattle.follow.specs.declared.Next.{Next}
 use Rattle.follow.specs.declared.Next.the-variants.{Go, Wait, Full, Stop}
-use Rattle.playback.specs.Replay.{start, replayer}
-use Rattle.playback.specs.declared.Replay.{Replay}
+use Rattle.jobs.specs.Job.{worker, recordsIn}
+use Rattle.jobs.specs.declared.Job.{Job}
 use Rattle.stream.specs.declared.State.{State}
 use Rattle.stream.specs.declared.How.{How}
 use Rattle.stream.specs.declared.How.the-variants.{On, Stopped, NotRead, NotWritten}
 
 -- ---- between the calls
--- before the first read
-abbrev pub pumpStart : State
-pumpStart = record { replay = start; from = 0; to = 0; last = false; whole = 0 }
+-- before the first read, of a job
+abbrev pub pumpStart : Job → State
+pumpStart j = record { job = j; from = 0; to = 0; last = false; whole = 0 }
 
 -- the places lie within a buffer of so many bytes
 abbrev pub Within : State → ℕ → Type 0
@@ -30,24 +30,20 @@ unfoldable pub unused : State → List ℕ → List ℕ
 unused s buffer = between (s .from) (s .to) buffer
 
 -- the run over it, with room for so much text
-abbrev pub ranOver : State → List ℕ → ℕ → Turn replayer
-ranOver s buffer room = runOf replayer (s .replay) (unused s buffer) (s .last) room
+abbrev pub ranOver : State → List ℕ → ℕ → Turn worker
+ranOver s buffer room = runOf worker (s .job) (unused s buffer) (s .last) room
 
--- the record before the one with this number: 0, where there is none
-abbrev pub recordBefore : ℕ → ℕ
-recordBefore number = number - 1
-
--- after a run that came to this replay and used so many bytes, and whose text is written
-abbrev pub afterRun : State → Replay → ℕ → State
-afterRun s r used = record { replay = r; from = s .from + used; to = s .to; last = s .last; whole = recordBefore (r .number) }
+-- after a run that came to this job and used so many bytes, and whose text is written
+abbrev pub afterRun : State → Job → ℕ → State
+afterRun s j used = record { job = j; from = s .from + used; to = s .to; last = s .last; whole = recordsIn j }
 
 -- with what is not used at the front of the buffer
 abbrev pub atFront : State → List ℕ → State
-atFront s buffer = record { replay = s .replay; from = 0; to = length (unused s buffer); last = s .last; whole = s .whole }
+atFront s buffer = record { job = s .job; from = 0; to = length (unused s buffer); last = s .last; whole = s .whole }
 
 -- after a read of so many bytes: of none, where the input has ended
 abbrev pub withRead : State → ℕ → State
-withRead s n = record { replay = s .replay; from = s .from; to = s .to + n; last = eqb n 0; whole = s .whole }
+withRead s n = record { job = s .job; from = s .from; to = s .to + n; last = eqb n 0; whole = s .whole }
 
 -- ---- the calls
 -- a read gave part: it stands behind what was not used
@@ -118,7 +114,7 @@ abbrev pub laterParts : List (List ℕ) → List (List ℕ)
 laterParts [] = []
 laterParts (part ∷ parts) = parts
 
--- turns from a state on, up to where the replay stops: the buffer, the parts that have not been read, and the text that is written
+-- turns from a state on, up to where the log stops: the buffer, the parts that have not been read, and the text that is written
 pub data Turns : State → List ℕ → List (List ℕ) → List ℕ → Type 0 where
   stopped : {s : State} {buffer : List ℕ} {parts : List (List ℕ)} (room : ℕ) → ranOver s buffer room .next ≡ Stop
       → Turns s buffer parts (ranOver s buffer room .text)

@@ -1,5 +1,5 @@
-// Pumps a log from one descriptor through the replay to another. No contract can say what is read or written: of the two calls this
-// says what they are handed and what is made of what they give; every byte of the text is the replay's.
+// Pumps a log from one descriptor through a job, which follows it, to another. No contract can say what is read or written: of the two
+// calls this says what they are handed and what is made of what they give; every byte of the text is the job's.
 ghost use mathlib.Core.Path.{_≡_};
 ghost use Prim.Native.Nat.{_+_, _≤_, _<_};
 ghost use lib.ListN.{length};
@@ -7,26 +7,26 @@ ghost use mir.Syntax.{w64};
 ghost use mir.Val.{Fits};
 ghost use Rattle.laws.specs.Bytes.{movedForward};
 ghost use Rattle.follow.specs.Follow.{Running};
-ghost use Rattle.playback.specs.Replay.{replayer};
-ghost use Rattle.stream.specs.Pump.{pumpStart, Within, unused, ranOver, afterRun, atFront, withRead, recordBefore, isOn, isWait, howAfter, RefilledAs, TurnedAs, statusOf};
+ghost use Rattle.jobs.specs.Job.{worker};
+ghost use Rattle.stream.specs.Pump.{pumpStart, Within, unused, ranOver, afterRun, atFront, withRead, isOn, isWait, howAfter, RefilledAs, TurnedAs, statusOf};
 use follow::Next;
+use jobs::Job;
+use jobs::Ran;
+use jobs::run;
 use laws::move_forward;
-use playback::Ran;
-use playback::Replay;
-use playback::run;
 
-// The replay; the bytes of the input that are there and not used, from one place of the buffer up to another; whether the input has
+// The job; the bytes of the input that are there and not used, from one place of the buffer up to another; whether the input has
 // ended; and the last record of the text that is written.
 struct State {
-    replay: Replay,
+    job: Job,
     from: usize,
     to: usize,
     last: bool,
     whole: u64,
 }
 
-// What a turn of the pump comes to: another turn; the end of the replay, by the refusal with this number or, where it is 0, at the
-// end of the log; or a call that failed.
+// What a turn of the pump comes to: another turn; the end of the log, by the refusal with this number or, where it is 0, by none; or a
+// call that failed.
 pub enum How {
     On,
     Stopped(u8),
@@ -53,11 +53,11 @@ struct Got {
 }
 
 // Before the first read.
-fn begin() -> State
-    ensures { λ r. ⌜ r ≡ pumpStart ⌝ }
+fn begin(job: Job) -> State
+    ensures { λ r. ⌜ r ≡ pumpStart job ⌝ }
 {
     State {
-        replay: Replay::start(),
+        job,
         from: 0,
         to: 0,
         last: false,
@@ -68,30 +68,23 @@ fn begin() -> State
 // A run over all that came and is not used.
 fn run_over(state: State, buffer: &[u8], text: &mut [u8]) -> Ran
     requires { ⌜ Within state (length (now buffer)) ⌝ }
-    ensures { λ r. ⌜ Running replayer (now (text .entry)) (ranOver state (now (buffer .entry)) (length (now (text .entry)))) (now (text .exit)) (r .next) (r .refusal) (r .replay) (r .used) (r .to) ⌝ }
+    ensures { λ r. ⌜ Running worker (now (text .entry)) (ranOver state (now (buffer .entry)) (length (now (text .entry)))) (now (text .exit)) (r .next) (r .refusal) (r .job) (r .used) (r .to) ⌝ }
 {
-    let replay = state.replay;
+    let job = state.job;
     let from = state.from;
     let to = state.to;
-    run(replay, &buffer[from..to], state.last, text)
-}
-
-// The record before the one with this number: 0, where there is none.
-fn record_before(number: u64) -> u64
-    ensures { λ r. ⌜ r ≡ recordBefore number ⌝ }
-{
-    if number == 0 { 0 } else { number - 1 }
+    run(job, &buffer[from..to], state.last, text)
 }
 
 // The state behind a run whose text is written.
 fn after_run(state: State, ran: Ran) -> State
     requires { ⌜ Fits w64 (state .from + ran .used) ⌝ }
-    ensures { λ r. ⌜ r ≡ afterRun state (ran .replay) (ran .used) ⌝ }
+    ensures { λ r. ⌜ r ≡ afterRun state (ran .job) (ran .used) ⌝ }
 {
-    let replay = ran.replay;
-    let whole = record_before(replay.next_number());
+    let job = ran.job;
+    let whole = job.records();
     State {
-        replay,
+        job,
         from: state.from + ran.used,
         to: state.to,
         last: state.last,
@@ -104,9 +97,9 @@ fn move_to_front(state: State, buffer: &mut [u8]) -> State
     ensures { λ r. ⌜ (r ≡ atFront state (now (buffer .entry))) × (now (buffer .exit) ≡ movedForward (state .from) (state .to) (now (buffer .entry))) ⌝ }
 {
     let to = move_forward(buffer, state.from, state.to);
-    let replay = state.replay;
+    let job = state.job;
     State {
-        replay,
+        job,
         from: 0,
         to,
         last: state.last,
@@ -119,9 +112,9 @@ fn after_read(state: State, n: usize) -> State
     requires { ⌜ Fits w64 (state .to + n) ⌝ }
     ensures { λ r. ⌜ r ≡ withRead state n ⌝ }
 {
-    let replay = state.replay;
+    let job = state.job;
     State {
-        replay,
+        job,
         from: state.from,
         to: state.to + n,
         last: n == 0,
@@ -214,11 +207,11 @@ fn goes_on(how: How) -> bool
     }
 }
 
-// The replay of the log at one descriptor, printed to another.
-pub fn pump(input: i32, output: i32) -> Ended {
+// What a job prints of the log at one descriptor, written to another.
+pub fn pump(input: i32, output: i32, job: Job) -> Ended {
     let mut buffer = io::large_buffer();
     let mut text = io::large_buffer();
-    let mut state = begin();
+    let mut state = begin(job);
     let mut turns = u64::MAX;
     while 0 < turns {
         let turned = turn(input, output, state, &mut buffer, &mut text);

@@ -1,0 +1,47 @@
+// How a program that pumps a log ends. Where the input cannot be read or the output cannot be written, a line on standard error says so.
+// A program has no status of its own: its digit goes to descriptor 3, for a caller that opens it.
+use libc::STDERR_FILENO;
+use stream::Ended;
+use stream::How;
+use stream::status_of;
+
+const STATUS_FILENO: i32 = 3;
+
+// The digit of a program that was not used as it is meant to be.
+const MISUSED: u8 = 2;
+
+fn give_status(status: u8) {
+    let digit = [std::num::wrapping_add_u8(48, status)];
+    io::write_all(STATUS_FILENO, &digit);
+}
+
+// What failed, and the last record of the last text that was written whole.
+fn tell_failed(program: &[u8], what: &[u8], whole: u64) {
+    io::write_all(STDERR_FILENO, program);
+    io::write_all(STDERR_FILENO, b": ");
+    io::write_all(STDERR_FILENO, what);
+    io::write_all(STDERR_FILENO, b"; the text is whole up to record ");
+    io::print_decimal(STDERR_FILENO, whole);
+    io::write_all(STDERR_FILENO, b"\n");
+}
+
+// The end of a program, by its name, behind its pump.
+pub fn tell_end(program: &[u8], ended: Ended) {
+    let how = ended.how;
+    match how {
+        How::On => tell_failed(program, b"the input is too long", ended.whole),
+        How::Stopped(_) => {}
+        How::NotRead => tell_failed(program, b"the input cannot be read", ended.whole),
+        How::NotWritten => tell_failed(program, b"the output cannot be written", ended.whole),
+    }
+    give_status(status_of(how));
+}
+
+// The end of a program that was not used as it is meant to be: how it is used.
+pub fn tell_use(program: &[u8], use_line: &[u8]) {
+    io::write_all(STDERR_FILENO, program);
+    io::write_all(STDERR_FILENO, b": ");
+    io::write_all(STDERR_FILENO, use_line);
+    io::write_all(STDERR_FILENO, b"\n");
+    give_status(MISUSED);
+}

@@ -1,0 +1,14 @@
+use borrow.Author.Needs.{needs}
+use Rattle.jobs.proofs.Jobs.{replay-runs}
+use Rattle.jobs.proofs.run_replay.Statement.{statement}
+use Rattle.jobs.proofs.run_replay.Tie as tie
+
+pub run-replay-spec : {M : Type 1} → statement M
+run-replay-spec =
+    tie.close
+    (tie.spec
+    (λ c κs. tt)
+    (λ c. search needs)
+    (λ c.
+    let r = c .before .before .before in
+    replay-runs _ _ _ _ (r .before .before .before .before .before .before .pre) (r .run .ensures)))
