@@ -219,8 +219,8 @@ impl Account {
         ensures { λ r. ⌜ r ≡ accountAfter self (read address count) answer range held ⌝ }
     {
         let counts = self.counts;
-        let counts = counts.with_left(less_by(self.held, held), 0, refused_by(answer));
         let doubt = self.doubt;
+        let counts = counts.with_left(less_by(self.held, held), 0, refused_by(answer));
         self.moved(counts, doubt, range, held)
     }
 
