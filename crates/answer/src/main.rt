@@ -1,0 +1,25 @@
+// Answers what is asked of the log on standard input, on standard output: its stretches; with `samples`, its samples too; with FROM TO,
+// in words, what came after record FROM and up to record TO.
+use arguments::Wanted;
+use arguments::wanted_of;
+use jobs::Job;
+use libc::STDIN_FILENO;
+use libc::STDOUT_FILENO;
+
+fn main() {
+    let mut first = io::buffer();
+    let mut second = io::buffer();
+    let m = os::arg(1, &mut first);
+    let n = os::arg(2, &mut second);
+    // of a word that does not fit into its buffer the count is 0, and an empty word asks for nothing
+    let wanted = wanted_of(os::arg_count(), &first[..m], &second[..n]);
+    let Wanted::Of(asked) = wanted else {
+        ending::tell_use(
+            b"answer",
+            b"it takes no argument, the word samples, or two record numbers, of which the first is smaller",
+        );
+        return;
+    };
+    let ended = stream::pump(STDIN_FILENO, STDOUT_FILENO, Job::to_answer(asked));
+    ending::tell_end(b"answer", ended);
+}

@@ -1,0 +1,54 @@
+-- What the words behind a program's name ask for.
+use Prim.Native.Nat.{ℕ, _+_, _-_, _*_, _^_}
+use mathlib.Core.Bool.{Bool, true, false, not}
+use mathlib.Core.List.{List, [], _∷_}
+use lib.Dec.{eqb, ltb}
+use lib.ListN.{length}
+use Rattle.laws.specs.Choice.{pick, both}
+use Rattle.text.specs.Text.{ascii, value}
+use Rattle.answers.specs.declared.Asked.the-variants.{Stretches, Samples, Between}
+use Rattle.arguments.specs.declared.Number.{Number}
+use Rattle.arguments.specs.declared.Number.the-variants.{No, Is}
+use Rattle.arguments.specs.declared.Wanted.{Wanted}
+use Rattle.arguments.specs.declared.Wanted.the-variants.{Wrong, Of}
+
+-- ---- numbers
+-- a decimal digit in ASCII
+abbrev pub isDigit : ℕ → Bool
+isDigit c = both (not (ltb c 48)) (ltb c 58)
+
+abbrev pub areDigits : List ℕ → Bool
+areDigits [] = true
+areDigits (c ∷ cs) = both (isDigit c) (areDigits cs)
+
+-- all numbers are below it
+abbrev pub limit : ℕ
+limit = 2 ^ 64
+
+-- decimal digits, at least one, that stand for a number of 64 bits
+unfoldable pub numberOf : List ℕ → Number
+numberOf w = pick (both (not (eqb (length w) 0)) (both (areDigits w) (ltb (value w) limit))) (Is (value w)) No
+
+-- a number with one digit more
+unfoldable pub withDigit : ℕ → ℕ → Number
+withDigit n c = pick (both (isDigit c) (ltb (n * 10 + (c - 48)) limit)) (Is (n * 10 + (c - 48))) No
+
+-- ---- words
+unfoldable pub sameWord : List ℕ → List ℕ → Bool
+sameWord [] [] = true
+sameWord [] (b ∷ t) = false
+sameWord (a ∷ s) [] = false
+sameWord (a ∷ s) (b ∷ t) = both (eqb a b) (sameWord s t)
+
+-- two numbers FROM TO with FROM below TO
+abbrev pub betweenOf : Number → Number → Wanted
+betweenOf No upto = Wrong
+betweenOf (Is from) No = Wrong
+betweenOf (Is from) (Is upto) = pick (ltb from upto) (Of (Between from upto)) Wrong
+
+-- none behind the program's name, which is counted; `samples`; or FROM TO; and nothing else
+unfoldable pub wantedOf : ℕ → List ℕ → List ℕ → Wanted
+wantedOf count first second =
+    pick (eqb count 1) (Of Stretches)
+    (pick (eqb count 2) (pick (sameWord first (ascii "samples")) (Of Samples) Wrong)
+    (pick (eqb count 3) (betweenOf (numberOf first) (numberOf second)) Wrong))

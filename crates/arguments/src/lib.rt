@@ -1,0 +1,97 @@
+// What the words behind a program's name ask for. What is not asked for in so many words is not asked for.
+ghost use mathlib.Core.Path.{_≡_};
+ghost use Rattle.text.specs.Text.{ascii};
+ghost use Rattle.arguments.specs.Words.{withDigit, numberOf, sameWord, betweenOf, wantedOf};
+use answers::Asked;
+
+// The number that a word stands for, where it does.
+pub enum Number {
+    No,
+    Is(u64),
+}
+
+// What is asked for, where the words say so.
+pub enum Wanted {
+    Wrong,
+    Of(Asked),
+}
+
+// A number with one digit more behind its own: none, where it is no digit or the number has more than 64 bits then.
+fn with_digit(n: u64, c: u8) -> Number
+    ensures { λ r. ⌜ r ≡ withDigit n c ⌝ }
+{
+    if c < 48 {
+        return Number::No;
+    }
+    if 58 <= c {
+        return Number::No;
+    }
+    let digit = (c - 48) as u64;
+    if (u64::MAX - digit) / 10 < n {
+        return Number::No;
+    }
+    Number::Is(n * 10 + digit)
+}
+
+// The number that decimal digits stand for.
+pub fn number_of(word: &[u8]) -> Number
+    ensures { λ r. ⌜ r ≡ numberOf (now (word .entry)) ⌝ }
+{
+    if word.len() == 0 {
+        return Number::No;
+    }
+    let mut n: u64 = 0;
+    let mut i: usize = 0;
+    while i < word.len() {
+        let next = with_digit(n, word[i]);
+        let Number::Is(m) = next else {
+            return Number::No;
+        };
+        n = m;
+        i += 1;
+    }
+    Number::Is(n)
+}
+
+fn is_samples(word: &[u8]) -> bool
+    ensures { λ r. ⌜ r ≡ sameWord (now (word .entry)) (ascii "samples") ⌝ }
+{
+    check::same(word, b"samples")
+}
+
+// What came after one record and up to another, which is a later one.
+fn between(from: Number, upto: Number) -> Wanted
+    ensures { λ r. ⌜ r ≡ betweenOf from upto ⌝ }
+{
+    let Number::Is(m) = from else {
+        return Wanted::Wrong;
+    };
+    let Number::Is(n) = upto else {
+        return Wanted::Wrong;
+    };
+    if m < n {
+        Wanted::Of(Asked::Between(m, n))
+    } else {
+        Wanted::Wrong
+    }
+}
+
+// What is asked for by so many words, of which the program's name is one, and by the two behind it.
+pub fn wanted_of(count: usize, first: &[u8], second: &[u8]) -> Wanted
+    ensures { λ r. ⌜ r ≡ wantedOf count (now (first .entry)) (now (second .entry)) ⌝ }
+{
+    if count == 1 {
+        return Wanted::Of(Asked::Stretches);
+    }
+    if count == 2 {
+        return if is_samples(first) {
+            Wanted::Of(Asked::Samples)
+        } else {
+            Wanted::Wrong
+        };
+    }
+    if count == 3 {
+        return between(number_of(first), number_of(second));
+    }
+    Wanted::Wrong
+}
