@@ -2,7 +2,6 @@
 // in words, what came after record FROM and up to record TO.
 use arguments::Wanted;
 use arguments::wanted_of;
-use jobs::Job;
 use libc::STDIN_FILENO;
 use libc::STDOUT_FILENO;
 
@@ -20,6 +19,6 @@ fn main() {
         );
         return;
     };
-    let ended = stream::pump(STDIN_FILENO, STDOUT_FILENO, Job::to_answer(asked));
+    let ended = stream::pump_answer(STDIN_FILENO, STDOUT_FILENO, asked);
     ending::tell_end(b"answer", ended);
 }

@@ -19,7 +19,7 @@ use Rattle.answers.specs.Answer.{answerer}
 use Rattle.answers.specs.declared.Answering.{Answering}
 use Rattle.answers.specs.declared.Asked.{Asked}
 use Rattle.answers.specs.declared.Asked.the-variants.{Stretches}
-use Rattle.jobs.specs.Job.{replayJob, answerJob, toReplay, toAnswer, worker}
+use Rattle.jobs.specs.Job.{replayJob, answerJob, inKind, toReplay, toAnswer, worker}
 use Rattle.jobs.specs.declared.Job.{Job}
 
 -- ---- behind the version byte, and behind a record, the version byte is past
@@ -41,27 +41,39 @@ replay-alike a = record { begun = λ s. refl; begin = λ s. refl; text = λ s e.
 answer-alike : (r : Replay) → Respects answerer worker (answerJob r)
 answer-alike r = record { begun = λ s. refl; begin = λ s. refl; text = λ s e. refl; next = λ s e. refl; last = λ s refusal. refl }
 
--- a job is one of the two
-replay-is : (j : Job) → j .answers ≡ false → j ≡ replayJob (j .answering) (j .replay)
-replay-is j e = λ i. record { answers = e i; replay = j .replay; answering = j .answering }
-
-answer-is : (j : Job) → j .answers ≡ true → j ≡ answerJob (j .replay) (j .answering)
-answer-is j e = λ i. record { answers = e i; replay = j .replay; answering = j .answering }
-
 -- ---- runs
 module _ (t : Teller) (image : t .State → Job) where
   running-image : {out out′ : List ℕ} {u : Turn t} {next : Next} {refusal : ℕ} {s : t .State} {used to : ℕ} → Running t out u out′ next refusal s used to
       → Running worker out (imageOf t worker image u) out′ next refusal (image s) used to
   running-image r = record { next-is = r .next-is; refusal-is = r .refusal-is; state-is = rw (r .state-is); used-is = r .used-is; text-is = r .text-is }
 
-module _ (j : Job) (l : List ℕ) (last : Bool) (room : ℕ) {out out′ : List ℕ} {next : Next} {refusal used to : ℕ} where
-  pub replay-runs : {s : Replay} → j .answers ≡ false → Running replayer out (runOf replayer (j .replay) l last room) out′ next refusal s used to
-      → Running worker out (runOf worker j l last room) out′ next refusal (replayJob (j .answering) s) used to
-  replay-runs e r = rw (replay-is j e, run-image replayer worker (replayJob (j .answering)) (replay-alike (j .answering)) l last (j .replay) room) (running-image replayer (replayJob (j .answering)) r)
+module _ (j : Job) (l : List ℕ) (last : Bool) (room : ℕ) where
+  replay-run : runOf worker (inKind false j) l last room ≡ imageOf replayer worker (replayJob (j .answering)) (runOf replayer (j .replay) l last room)
+  replay-run = run-image replayer worker (replayJob (j .answering)) (replay-alike (j .answering)) l last (j .replay) room
 
-  pub answer-runs : {s : Answering} → j .answers ≡ true → Running answerer out (runOf answerer (j .answering) l last room) out′ next refusal s used to
-      → Running worker out (runOf worker j l last room) out′ next refusal (answerJob (j .replay) s) used to
-  answer-runs e r = rw (answer-is j e, run-image answerer worker (answerJob (j .replay)) (answer-alike (j .replay)) l last (j .answering) room) (running-image answerer (answerJob (j .replay)) r)
+  answer-run : runOf worker (inKind true j) l last room ≡ imageOf answerer worker (answerJob (j .replay)) (runOf answerer (j .answering) l last room)
+  answer-run = run-image answerer worker (answerJob (j .replay)) (answer-alike (j .replay)) l last (j .answering) room
+
+  module _ {out out′ : List ℕ} {next : Next} {refusal used to : ℕ} where
+    pub replay-runs : {s : Replay} → Running replayer out (runOf replayer (j .replay) l last room) out′ next refusal s used to
+        → Running worker out (runOf worker (inKind false j) l last room) out′ next refusal (replayJob (j .answering) s) used to
+    replay-runs r = rw replay-run (running-image replayer (replayJob (j .answering)) r)
+
+    pub answer-runs : {s : Answering} → Running answerer out (runOf answerer (j .answering) l last room) out′ next refusal s used to
+        → Running worker out (runOf worker (inKind true j) l last room) out′ next refusal (answerJob (j .replay) s) used to
+    answer-runs r = rw answer-run (running-image answerer (answerJob (j .replay)) r)
+
+-- a job is of its own kind
+pub in-kind : (answers : Bool) (j : Job) → answers ≡ j .answers → inKind answers j ≡ j
+in-kind answers j e = λ i. record { answers = e i; replay = j .replay; answering = j .answering }
+
+-- and stays so
+pub kind-kept : (j : Job) (l : List ℕ) (last : Bool) (room : ℕ) → runOf worker j l last room .state .answers ≡ j .answers
+kind-kept j l last room = go (j .answers) refl
+  where
+    go : (b : Bool) → b ≡ j .answers → runOf worker j l last room .state .answers ≡ j .answers
+    go true e = rw (← in-kind true j e, answer-run j l last room)
+    go false e = rw (← in-kind false j e, replay-run j l last room)
 
 -- ---- whole logs
 pub replay-printed : (log : List ℕ) → printedFrom worker toReplay log ≡ replay.printed log

@@ -20,5 +20,5 @@ records-settled = settles (λ κs a r r′ s s′ p q. (meet p q, refl))
 pub run-settled : Settled run.ended (λ M. run.clauses) (λ M. run.spec)
 run-settled = settles (λ κs a r r′ s s′ p q. (
   λ i. record { next = meet (p .next-is) (q .next-is) i; refusal = meet (p .refusal-is) (q .refusal-is) i; job = meet (p .state-is) (q .state-is) i; used = meet (p .used-is) (q .used-is) i; to = meet (p .text-is .place) (q .text-is .place) i },
-  λ i. (tt, (tt, (tt, (meet (p .text-is .bytes) (q .text-is .bytes) i, tt)))),
+  λ i. (tt, (tt, (tt, (tt, (meet (p .text-is .bytes) (q .text-is .bytes) i, tt))))),
 ))

@@ -1,6 +1,6 @@
 -- Who follows a log for a program: the replay, or the answer.
 use Prim.Native.Nat.{ℕ, _-_}
-use mathlib.Core.Bool.{true, false}
+use mathlib.Core.Bool.{Bool, true, false}
 use Rattle.laws.specs.Choice.{pick}
 use Rattle.follow.specs.Teller.{Teller}
 use Rattle.playback.specs.Replay as replay
@@ -19,6 +19,10 @@ replayJob a r = record { answers = false; replay = r; answering = a }
 
 abbrev pub answerJob : Replay → Answering → Job
 answerJob r a = record { answers = true; replay = r; answering = a }
+
+-- a job taken for one of the kind that is said
+abbrev pub inKind : Bool → Job → Job
+inKind answers j = record { answers = answers; replay = j .replay; answering = j .answering }
 
 -- before the version byte
 abbrev pub toReplay : Job

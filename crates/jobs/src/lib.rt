@@ -4,7 +4,7 @@ ghost use mathlib.Core.Bool.{true, false};
 ghost use mathlib.Core.Path.{_≡_};
 ghost use lib.ListN.{length};
 ghost use Rattle.follow.specs.Follow.{runOf, Running};
-ghost use Rattle.jobs.specs.Job.{toReplay, toAnswer, worker, recordsIn};
+ghost use Rattle.jobs.specs.Job.{inKind, toReplay, toAnswer, worker, recordsIn};
 use answers::Answering;
 use answers::Asked;
 use follow::Next;
@@ -73,8 +73,7 @@ impl Job {
 
 // A run of the replay, and one of the answer.
 fn run_replay(job: Job, log: &[u8], last: bool, out: &mut [u8]) -> Ran
-    requires { ⌜ job .answers ≡ false ⌝ }
-    ensures { λ r. ⌜ Running worker (now (out .entry)) (runOf worker job (now (log .entry)) last (length (now (out .entry)))) (now (out .exit)) (r .next) (r .refusal) (r .job) (r .used) (r .to) ⌝ }
+    ensures { λ r. ⌜ Running worker (now (out .entry)) (runOf worker (inKind false job) (now (log .entry)) last (length (now (out .entry)))) (now (out .exit)) (r .next) (r .refusal) (r .job) (r .used) (r .to) ⌝ }
 {
     let replay = job.replay;
     let answering = job.answering;
@@ -95,8 +94,7 @@ fn run_replay(job: Job, log: &[u8], last: bool, out: &mut [u8]) -> Ran
 }
 
 fn run_answer(job: Job, log: &[u8], last: bool, out: &mut [u8]) -> Ran
-    requires { ⌜ job .answers ≡ true ⌝ }
-    ensures { λ r. ⌜ Running worker (now (out .entry)) (runOf worker job (now (log .entry)) last (length (now (out .entry)))) (now (out .exit)) (r .next) (r .refusal) (r .job) (r .used) (r .to) ⌝ }
+    ensures { λ r. ⌜ Running worker (now (out .entry)) (runOf worker (inKind true job) (now (log .entry)) last (length (now (out .entry)))) (now (out .exit)) (r .next) (r .refusal) (r .job) (r .used) (r .to) ⌝ }
 {
     let replay = job.replay;
     let answering = job.answering;
@@ -116,11 +114,13 @@ fn run_answer(job: Job, log: &[u8], last: bool, out: &mut [u8]) -> Ran
     }
 }
 
-// As many steps as there is input and room for, by whoever follows the log.
-pub fn run(job: Job, log: &[u8], last: bool, out: &mut [u8]) -> Ran
-    ensures { λ r. ⌜ Running worker (now (out .entry)) (runOf worker job (now (log .entry)) last (length (now (out .entry)))) (now (out .exit)) (r .next) (r .refusal) (r .job) (r .used) (r .to) ⌝ }
+// As many steps as there is input and room for, by whoever follows the log. Which of the two that is goes beside the job, as a flag of
+// its own: a program that says the same at every call is compiled without the other, and then each event of the device is called from
+// one place.
+pub fn run(answers: bool, job: Job, log: &[u8], last: bool, out: &mut [u8]) -> Ran
+    ensures { λ r. ⌜ Running worker (now (out .entry)) (runOf worker (inKind answers job) (now (log .entry)) last (length (now (out .entry)))) (now (out .exit)) (r .next) (r .refusal) (r .job) (r .used) (r .to) ⌝ }
 {
-    if job.answers {
+    if answers {
         run_answer(job, log, last, out)
     } else {
         run_replay(job, log, last, out)

@@ -1,9 +1,8 @@
 // Replays the log on standard input to standard output.
-use jobs::Job;
 use libc::STDIN_FILENO;
 use libc::STDOUT_FILENO;
 
 fn main() {
-    let ended = stream::pump(STDIN_FILENO, STDOUT_FILENO, Job::to_replay());
+    let ended = stream::pump_replay(STDIN_FILENO, STDOUT_FILENO);
     ending::tell_end(b"replay", ended);
 }

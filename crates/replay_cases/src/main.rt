@@ -3,7 +3,6 @@ use benchlog::CycleEntry;
 use benchlog::Entry;
 use benchlog::WriteEntry;
 use benchlog::room_number_of;
-use jobs::Job;
 use libc::STDOUT_FILENO;
 use logwriter::write_entry;
 use logwriter::write_version;
@@ -22,7 +21,7 @@ fn case(n: u16) -> bool {
     }
     show::text(&name);
     show::text(b"\n");
-    stream::pump(fd, STDOUT_FILENO, Job::to_replay());
+    stream::pump_replay(fd, STDOUT_FILENO);
     libc::close(fd);
     true
 }

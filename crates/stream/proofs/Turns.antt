@@ -16,7 +16,7 @@ use Rattle.follow.specs.declared.Next.the-variants.{Go, Wait, Full, Stop}
 use Rattle.follow.proofs.Stream.{never-go, waits, used-within}
 use Rattle.jobs.specs.Job.{worker}
 use Rattle.jobs.specs.declared.Ran.{Ran}
-use Rattle.jobs.proofs.Jobs.{works}
+use Rattle.jobs.proofs.Jobs.{works, kind-kept}
 use Rattle.stream.specs.declared.State.{State}
 use Rattle.stream.specs.declared.How.{How}
 use Rattle.stream.specs.declared.How.the-variants.{On, Stopped, NotRead, NotWritten}
@@ -69,7 +69,18 @@ module _ (s : State) (buffer : List ℕ) (room : ℕ) {ran : Ran} {out out′ : 
       go NotRead e r = (e, r ∙ ap (λ (t : State). atFront t buffer) next-is)
       go NotWritten e r = absurd r
 
--- where the pump goes on, the places are within the buffer
+-- where the pump goes on, the job is of the kind that it was
+pub on-kept : (how : How) (s : State) (buffer : List ℕ) (room : ℕ) (s′ : State) (buffer′ : List ℕ) → isOn how ≡ true → TurnedAs how s buffer room s′ buffer′ → s′ .job .answers ≡ s .job .answers
+on-kept On s buffer room s′ buffer′ e t = went (t .0)
+  where
+    went : Went s buffer room s′ buffer′ → s′ .job .answers ≡ s .job .answers
+    went (emptied f is b) = ap (λ (t : State). t .job .answers) is ∙ kind-kept (s .job) (unused s buffer) (s .last) room
+    went (refilled w r) = ap (λ (t : State). t .job .answers) (r .state) ∙ kind-kept (s .job) (unused s buffer) (s .last) room
+on-kept (Stopped refusal) s buffer room s′ buffer′ e t = let z : _≡_ {A = ℕ} 0 1 = cc in absurd (omega arith)
+on-kept NotRead s buffer room s′ buffer′ e t = let z : _≡_ {A = ℕ} 0 1 = cc in absurd (omega arith)
+on-kept NotWritten s buffer room s′ buffer′ e t = let z : _≡_ {A = ℕ} 0 1 = cc in absurd (omega arith)
+
+-- and the places are within the buffer
 pub on-within : (how : How) (s : State) (buffer : List ℕ) (room : ℕ) (s′ : State) (buffer′ : List ℕ) → isOn how ≡ true → TurnedAs how s buffer room s′ buffer′ → Within s′ (length buffer)
 on-within On s buffer room s′ buffer′ e t = t .1
 on-within (Stopped refusal) s buffer room s′ buffer′ e t = let z : _≡_ {A = ℕ} 0 1 = cc in absurd (omega arith)

@@ -9,6 +9,7 @@ ghost use Rattle.laws.specs.Bytes.{movedForward};
 ghost use Rattle.follow.specs.Follow.{Running};
 ghost use Rattle.jobs.specs.Job.{worker};
 ghost use Rattle.stream.specs.Pump.{pumpStart, Within, unused, ranOver, afterRun, atFront, withRead, isOn, isWait, howAfter, RefilledAs, TurnedAs, statusOf};
+use answers::Asked;
 use follow::Next;
 use jobs::Job;
 use jobs::Ran;
@@ -66,14 +67,14 @@ fn begin(job: Job) -> State
 }
 
 // A run over all that came and is not used.
-fn run_over(state: State, buffer: &[u8], text: &mut [u8]) -> Ran
-    requires { ⌜ Within state (length (now buffer)) ⌝ }
+fn run_over(answers: bool, state: State, buffer: &[u8], text: &mut [u8]) -> Ran
+    requires { ⌜ (answers ≡ state .job .answers) × Within state (length (now buffer)) ⌝ }
     ensures { λ r. ⌜ Running worker (now (text .entry)) (ranOver state (now (buffer .entry)) (length (now (text .entry)))) (now (text .exit)) (r .next) (r .refusal) (r .job) (r .used) (r .to) ⌝ }
 {
     let job = state.job;
     let from = state.from;
     let to = state.to;
-    run(job, &buffer[from..to], state.last, text)
+    run(answers, job, &buffer[from..to], state.last, text)
 }
 
 // The state behind a run whose text is written.
@@ -179,11 +180,18 @@ fn how_after(next: Next, refusal: u8) -> How
 }
 
 // One run, its text, and where the run waits for more, a read.
-fn turn(input: i32, output: i32, state: State, buffer: &mut [u8], text: &mut [u8]) -> Turned
-    requires { ⌜ Within state (length (now buffer)) × (65536 ≡ length (now buffer)) ⌝ }
+fn turn(
+    input: i32,
+    output: i32,
+    answers: bool,
+    state: State,
+    buffer: &mut [u8],
+    text: &mut [u8],
+) -> Turned
+    requires { ⌜ (answers ≡ state .job .answers) × Within state (length (now buffer)) × (65536 ≡ length (now buffer)) ⌝ }
     ensures { λ r. ⌜ TurnedAs (r .how) state (now (buffer .entry)) (length (now (text .entry))) (r .state) (now (buffer .exit)) ⌝ }
 {
-    let ran = run_over(state, &*buffer, &mut *text);
+    let ran = run_over(answers, state, &*buffer, &mut *text);
     let to = ran.to;
     if !io::write_all(output, &text[..to]) {
         return came_to(How::NotWritten, state);
@@ -207,14 +215,16 @@ fn goes_on(how: How) -> bool
     }
 }
 
-// What a job prints of the log at one descriptor, written to another.
-pub fn pump(input: i32, output: i32, job: Job) -> Ended {
+// What a job prints of the log at one descriptor, written to another. answers says of which kind the job is (jobs::run says why).
+fn pump(input: i32, output: i32, answers: bool, job: Job) -> Ended
+    requires { ⌜ answers ≡ job .answers ⌝ }
+{
     let mut buffer = io::large_buffer();
     let mut text = io::large_buffer();
     let mut state = begin(job);
     let mut turns = u64::MAX;
     while 0 < turns {
-        let turned = turn(input, output, state, &mut buffer, &mut text);
+        let turned = turn(input, output, answers, state, &mut buffer, &mut text);
         let next = turned.state;
         state = next;
         let how = turned.how;
@@ -230,6 +240,16 @@ pub fn pump(input: i32, output: i32, job: Job) -> Ended {
         how: How::On,
         whole: state.whole,
     }
+}
+
+// The replay of the log at one descriptor, written to another.
+pub fn pump_replay(input: i32, output: i32) -> Ended {
+    pump(input, output, false, Job::to_replay())
+}
+
+// The answer to what is asked of the log at one descriptor, written to another.
+pub fn pump_answer(input: i32, output: i32, asked: Asked) -> Ended {
+    pump(input, output, true, Job::to_answer(asked))
 }
 
 // The status of a program that came to its end so: 0 done, 1 input or output failed, 3 a log that was refused.

@@ -11,4 +11,4 @@ run-answer-spec =
     (λ c. search needs)
     (λ c.
     let r = c .before .before .before in
-    answer-runs _ _ _ _ (r .before .before .before .before .before .before .pre) (r .run .ensures)))
+    answer-runs (r .before .before .before .before .before .before .args .job) _ _ _ (r .run .ensures)))

@@ -11,4 +11,4 @@ run-replay-spec =
     (λ c. search needs)
     (λ c.
     let r = c .before .before .before in
-    replay-runs _ _ _ _ (r .before .before .before .before .before .before .pre) (r .run .ensures)))
+    replay-runs (r .before .before .before .before .before .before .args .job) _ _ _ (r .run .ensures)))
