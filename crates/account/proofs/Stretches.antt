@@ -6,12 +6,37 @@ use mathlib.Core.Bool.{Bool, true, false}
 use mathlib.Core.List.{List, [], _∷_, _++_}
 use mathlib.Core.Path.{_≡_, refl, ap, sym}
 use native.Mathlib.Omega.{arith}
+use lib.Dec.{eqb}
 use lib.ListN.{length, length-append}
-use Rattle.laws.specs.Choice.{pick}
-use Rattle.events.specs.Event.{Event}
+use Rattle.laws.specs.Choice.{pick, either}
+use Rattle.codes.specs.Addresses.{rangeAt}
+use Rattle.codes.specs.Range.{rangeOf, isReservedRange}
+use Rattle.registers.specs.Deeds.{isReset}
+use Rattle.events.specs.Event.{Event, powerUp, write, read, sample, cycle}
+use Rattle.history.specs.History.{readsOut}
+use Rattle.account.specs.declared.Why.the-variants as why
 use Rattle.account.specs.Account.{differences, ends}
-use Rattle.account.specs.Histories.{countsOf, accountOf, whyAt, lastEnd, Stretch, stretches, Adjacent, Conserved, apart, Part, unended, Between, EndAt, Each, over, inside, together}
+use Rattle.account.specs.Histories.{countsOf, accountOf, whyAt, isEnd, lastEnd, Stretch, stretches, Adjacent, Conserved, apart, Part, unended, Between, EndAt, Each, over, inside, together}
 use Rattle.account.proofs.Histories.{grows, conserved, differences-are}
+
+-- ---- what ends them
+pub ends-is : (e : Event) → ends (whyAt e) ≡ isEnd e
+unfolding whyAt
+ends-is powerUp = refl
+ends-is (write a byte) = go (isReset a byte) (eqb a rangeAt) (isReservedRange (rangeOf byte))
+  where
+    go : (r s t : Bool) → ends (pick r why.Reset (pick s (pick t why.Refused why.Range) why.Nothing)) ≡ either r s
+    go true s t = refl
+    go false true true = refl
+    go false true false = refl
+    go false false t = refl
+ends-is (read a n) = go (readsOut a n)
+  where
+    go : (t : Bool) → ends (pick t why.Readout why.Nothing) ≡ either t false
+    go true = refl
+    go false = refl
+ends-is (sample x y z temperature) = refl
+ends-is cycle = refl
 
 -- ---- where they lie
 -- what a stretch begins with is a part of what it ends with

@@ -1,12 +1,12 @@
 -- The account, from the events alone: what the histories say of a log. In a history the latest event stands first.
 use Prim.Native.Nat.{ℕ, suc, _+_, _-_, _≤_}
-use mathlib.Core.Bool.{not}
+use mathlib.Core.Bool.{Bool, false, not}
 use mathlib.Core.List.{List, [], _∷_, _++_}
 use mathlib.Core.Path.{_≡_}
 use lib.Dec.{eqb}
 use lib.ListN.{length}
 use Rattle.laws.specs.Bits.{worth}
-use Rattle.laws.specs.Choice.{pick}
+use Rattle.laws.specs.Choice.{pick, either}
 use Rattle.codes.specs.Addresses.{rangeAt}
 use Rattle.codes.specs.Range.{rangeOf, isReservedRange}
 use Rattle.registers.specs.Answers.{accepted}
@@ -15,6 +15,7 @@ use Rattle.device.specs.Show.{heldIn, rangeIn}
 use Rattle.events.specs.Bank.{stored}
 use Rattle.events.specs.Event.{Event, powerUp, write, read, sample, cycle, happens}
 use Rattle.events.specs.Run.{after}
+use Rattle.events.specs.Views.{isPowerUp, atWrite, atRead}
 use Rattle.history.specs.History.{accelerometer, readsOut}
 use Rattle.history.specs.Whole.{heldNow, totals}
 use Rattle.account.specs.declared.Account.{Account}
@@ -65,6 +66,14 @@ whyAt (write a byte) =
 whyAt (read a n) = pick (readsOut a n) why.Readout why.Nothing
 whyAt (sample x y z temperature) = why.Nothing
 whyAt cycle = why.Nothing
+
+-- what has to do with the range: "a write to 0x0F, accepted or refused"; "a soft reset"
+abbrev pub isOfRange : Event → Bool
+isOfRange e = either (isPowerUp e) (atWrite false (λ a byte. either (isReset a byte) (eqb a rangeAt)) e)
+
+-- what ends a stretch: that, and a readout
+abbrev pub isEnd : Event → Bool
+isEnd e = either (atRead false readsOut e) (isOfRange e)
 
 -- the history at the end of the last stretch that has ended: that of power-up where none has
 unfoldable pub lastEnd : List Event → List Event

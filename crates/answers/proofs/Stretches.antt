@@ -48,18 +48,18 @@ no-end e es = go (ends (whyAt e))
     go false h = refl
 
 -- so that it leaves the range as it is
-rest-line : (es : List Event) → eqb (length (lastEnd es)) (length es) ≡ false → stretchLine (accountOf (lastEnd es)) (accountOf es) (accountOf es) Nothing ≡ lineOf (unended es)
+pub rest-line : (es : List Event) → eqb (length (lastEnd es)) (length es) ≡ false → stretchLine (accountOf (lastEnd es)) (accountOf es) (accountOf es) Nothing ≡ lineOf (unended es)
 unfolding stretchLine
 rest-line [] h = refl
 rest-line (e ∷ es) h = let s = range-stays e es (no-end e es h) in rw (s .0, s .1)
 
 -- of a whole log
-pub stretches-whole : (es : List Event) (refusal : ℕ)
-    → toldOf Stretches es ++ endOf Stretches true es refusal ≡ linesFor (allOf es) ++ lastLine true (length es) refusal
-stretches-whole es refusal = rw (stretches-told es) (go (eqb (length (lastEnd es)) (length es)) refl)
+pub stretches-whole : (es : List Event) (begun : Bool) (refusal : ℕ)
+    → toldOf Stretches es ++ endOf Stretches begun es refusal ≡ linesFor (allOf es) ++ lastLine begun (length es) refusal
+stretches-whole es begun refusal = rw (stretches-told es) (go (eqb (length (lastEnd es)) (length es)) refl)
   where
     last : List ℕ
-    last = lastLine true (length es) refusal
+    last = lastLine begun (length es) refusal
 
     go : (t : Bool) → eqb (length (lastEnd es)) (length es) ≡ t
         → linesFor (stretches es) ++ (pick t [] (stretchLine (accountOf (lastEnd es)) (accountOf es) (accountOf es) Nothing) ++ last)

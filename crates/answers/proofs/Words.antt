@@ -9,14 +9,19 @@ use lib.Dec.{eqb, ltb}
 use lib.ListN.{length, length-append}
 use lib.Seq.{drop-append-seam}
 use borrow.Author.Tests.{eq-eqb, ne-eqb, lt-ltb, le-ltb}
-use Rattle.laws.specs.Choice.{pick}
-use Rattle.events.specs.Event.{Event}
+use Rattle.laws.specs.Choice.{pick, either}
+use Rattle.codes.specs.Addresses.{rangeAt}
+use Rattle.codes.specs.Range.{rangeOf, isReservedRange}
+use Rattle.registers.specs.Deeds.{isReset}
+use Rattle.events.specs.Event.{Event, powerUp, write, read, sample, cycle}
+use Rattle.history.specs.History.{readsOut}
 use Rattle.account.specs.Account.{ends}
-use Rattle.account.specs.Histories.{accountOf, whyAt, lastEnd, Stretch, stretches, Part, Between, Each, inside}
+use Rattle.account.specs.Histories.{accountOf, whyAt, isOfRange, lastEnd, Stretch, stretches, Part, Between, Each, inside}
+use Rattle.account.specs.declared.Why.the-variants as why
 use Rattle.account.proofs.Histories.{differences-are}
 use Rattle.account.proofs.Stretches.{lastEnd-part, sums, each-differs}
 use Rattle.wording.specs.Wording.{totalsLine, shortLine}
-use Rattle.answers.specs.Answer.{firstRange}
+use Rattle.answers.specs.Answer.{firstRange, setsRange}
 use Rattle.answers.specs.Histories.{markOf, toldOf, endOf}
 use Rattle.answers.specs.Plain.{columnsOf, rangesFrom, Summed}
 use Rattle.answers.specs.declared.Asked.{Asked}
@@ -59,6 +64,25 @@ words-sum later h l k room =
     }
 
 -- ---- the lines
+-- a range is told where an event has to do with it
+sets-range-is : (e : Event) → setsRange (whyAt e) ≡ isOfRange e
+unfolding whyAt
+sets-range-is powerUp = refl
+sets-range-is (write a byte) = go (isReset a byte) (eqb a rangeAt) (isReservedRange (rangeOf byte))
+  where
+    go : (r s t : Bool) → setsRange (pick r why.Reset (pick s (pick t why.Refused why.Range) why.Nothing)) ≡ either r s
+    go true s t = refl
+    go false true true = refl
+    go false true false = refl
+    go false false t = refl
+sets-range-is (read a n) = go (readsOut a n)
+  where
+    go : (t : Bool) → setsRange (pick t why.Readout why.Nothing) ≡ false
+    go true = refl
+    go false = refl
+sets-range-is (sample x y z temperature) = refl
+sets-range-is cycle = refl
+
 module _ (from upto : ℕ) (some : from < upto) where
   abbrev words : Asked
   words = asked.Between from upto
@@ -107,7 +131,7 @@ module _ (h : List Event) (upto : ℕ) (some : length h < upto) where
       let first : eqb (suc (length (later ++ h))) (length h) ≡ false = ne-eqb (suc (length (later ++ h))) (length h) (λ p. omega arith) in
       let last : eqb (suc (length (later ++ h))) upto ≡ false = ne-eqb (suc (length (later ++ h))) upto (λ p. omega arith) in
       let past : ltb (length h) (suc (length (later ++ h))) ≡ true = lt-ltb (length h) (suc (length (later ++ h))) (omega arith) in
-      rw (first, last, past, lt-ltb _ _ room, append-nil) (regroup (toldOf behind (later ++ h)) (firstRange (length h) (accountOf (later ++ h))) _ _ (ranges-told later (omega arith)))
+      rw (sets-range-is e, first, last, past, lt-ltb _ _ room, append-nil) (regroup (toldOf behind (later ++ h)) (firstRange (length h) (accountOf (later ++ h))) _ _ (ranges-told later (omega arith)))
 
   -- the log comes to the record upto: the ranges, and the totals
   pub words-told : (later : List Event) (e : Event) → suc (length (later ++ h)) ≡ upto → (more : List Event) (begun : Bool) (refusal : ℕ)

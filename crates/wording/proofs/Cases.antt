@@ -3,15 +3,20 @@
 use mathlib.Core.Bool.{true, false}
 use mathlib.Core.Path.{_≡_, refl}
 use lib.IntN.{pos, negsuc}
-use Rattle.codes.specs.declared.Range.the-variants.{G2, G16}
+use Rattle.codes.specs.declared.Range.{Range}
+use Rattle.codes.specs.declared.Range.the-variants.{G2, G4, G8, G16}
 use Rattle.text.specs.Text.{ascii, decimal, lastDigits}
 use Rattle.account.specs.declared.Account.{Account}
 use Rattle.account.specs.declared.Doubt.the-variants.{No, By}
-use Rattle.account.specs.declared.Why.the-variants.{Nothing, Readout}
+use Rattle.account.specs.declared.Why.the-variants.{Nothing, Readout, Refused, Reset}
+use Rattle.account.specs.declared.Why.the-variants as why
 use Rattle.wording.specs.Wording.{stretchLine, lastLine, signedColumn, sampleLine, rangeLine, totalsLine, shortLine}
 
+abbrev pub with-range : Range → Account
+with-range r = record { number = 10; counts = record { accepted = 100; taken = 200; lost = 300; cleared = 400; refused = 500 }; doubt = No; range = r; held = 7 }
+
 abbrev pub early : Account
-early = record { number = 10; counts = record { accepted = 100; taken = 200; lost = 300; cleared = 400; refused = 500 }; doubt = No; range = G2; held = 7 }
+early = with-range G2
 
 abbrev pub late : Account
 late = record { number = 35; counts = record { accepted = 101; taken = 202; lost = 303; cleared = 404; refused = 505 }; doubt = By 2 0x07; range = G16; held = 32 }
@@ -25,6 +30,19 @@ stretch = refl
 pub before-it-acts : stretchLine early early late Nothing ≡ ascii "11 35 2g 1 2 3 4 32 5 rest\n"
 unfolding stretchLine decimal lastDigits
 before-it-acts = refl
+
+-- the other ranges, and the other words of what ended a stretch
+pub range-4g : stretchLine early (with-range G4) late why.Range ≡ ascii "11 35 4g 1 2 3 4 32 5 range\n"
+unfolding stretchLine decimal lastDigits
+range-4g = refl
+
+pub range-8g : stretchLine early (with-range G8) late Refused ≡ ascii "11 35 8g 1 2 3 4 32 5 refused\n"
+unfolding stretchLine decimal lastDigits
+range-8g = refl
+
+pub range-16g : stretchLine early (with-range G16) late Reset ≡ ascii "11 35 16g 1 2 3 4 32 5 reset\n"
+unfolding stretchLine decimal lastDigits
+range-16g = refl
 
 pub ended : lastLine true 35 0 ≡ ascii "end 35\n"
 unfolding lastLine decimal lastDigits
@@ -41,6 +59,10 @@ refused-at-once = refl
 pub a-sample : sampleLine 9 (pos 2047) (negsuc 2047) (negsuc 0) 1 ≡ ascii "sample 9 2047 -2048 -1 1\n"
 unfolding sampleLine signedColumn decimal lastDigits
 a-sample = refl
+
+pub a-zero : sampleLine 9 (pos 0) (pos 1) (pos 10) 0 ≡ ascii "sample 9 0 1 10 0\n"
+unfolding sampleLine signedColumn decimal lastDigits
+a-zero = refl
 
 pub in-doubt : rangeLine late ≡ ascii "from record 36: 16g?, because record 2 wrote 07 to 0F and was refused\n"
 unfolding rangeLine decimal lastDigits
