@@ -1,2 +1,1 @@
 pub mod Account
-pub mod Histories

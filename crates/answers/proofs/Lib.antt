@@ -1,6 +1,2 @@
 pub mod Lines
-pub mod Told
-pub mod Stretches
-pub mod Samples
-pub mod Words
 pub mod OneOutcome

@@ -1,3 +1,1 @@
 pub mod Answer
-pub mod Histories
-pub mod Plain

@@ -16,17 +16,17 @@ use Rattle.registers.specs.Deeds.{isReset}
 use Rattle.events.specs.Event.{Event, powerUp, write, read, sample, cycle}
 use Rattle.history.specs.History.{readsOut}
 use Rattle.account.specs.Account.{ends}
-use Rattle.account.specs.Histories.{accountOf, whyAt, isOfRange, lastEnd, Stretch, stretches, Part, Between, Each, inside}
+use Rattle.stretches.specs.Histories.{accountOf, whyAt, isOfRange, lastEnd, Stretch, stretches, Part, Between, Each, inside}
 use Rattle.account.specs.declared.Why.the-variants as why
-use Rattle.account.proofs.Histories.{differences-are}
-use Rattle.account.proofs.Stretches.{lastEnd-part, sums, each-differs}
+use Rattle.stretches.proofs.Histories.{differences-are}
+use Rattle.stretches.proofs.Stretches.{lastEnd-part, sums, each-differs}
 use Rattle.wording.specs.Wording.{totalsLine, shortLine}
 use Rattle.answers.specs.Answer.{firstRange, setsRange}
-use Rattle.answers.specs.Histories.{markOf, toldOf, endOf}
-use Rattle.answers.specs.Plain.{columnsOf, rangesFrom, Summed}
+use Rattle.told.specs.Histories.{markOf, toldOf, endOf}
+use Rattle.told.specs.Plain.{columnsOf, rangesFrom, Summed}
 use Rattle.answers.specs.declared.Asked.{Asked}
 use Rattle.answers.specs.declared.Asked.the-variants as asked
-use Rattle.answers.proofs.Stretches.{added-up-is}
+use Rattle.told.proofs.Stretches.{added-up-is}
 
 -- ---- the sums
 -- the stretches of a later history that h has not, where one ends at h

@@ -23,13 +23,13 @@ use Rattle.events.specs.Run.{after}
 use Rattle.entries.specs.Entries.{eventOf}
 use Rattle.follow.specs.Whole.{linesAs, linesOf, begunAs, printedFrom}
 use Rattle.account.specs.Account.{ends}
-use Rattle.account.specs.Histories.{accountOf, whyAt, lastEnd}
-use Rattle.account.proofs.Histories.{account-first, account-next, why-is}
+use Rattle.stretches.specs.Histories.{accountOf, whyAt, lastEnd}
+use Rattle.stretches.proofs.Histories.{account-first, account-next, why-is}
 use Rattle.answers.specs.Answer.{start, at, recordText, markAfter, answerer, printed}
-use Rattle.answers.specs.Histories.{eventsAs, eventsOnto, stopAs, stopIn, markOf, toldOf, endOf, toldAs, told}
+use Rattle.told.specs.Histories.{eventsAs, eventsOnto, stopAs, stopIn, markOf, toldOf, endOf, toldAs, told}
 use Rattle.answers.specs.declared.Answering.{Answering}
 use Rattle.answers.specs.declared.Asked.{Asked}
 use Rattle.answers.specs.declared.Asked.the-variants.{Stretches, Samples, Between}
 
 -- ---- the mark
 -- one event more: it is the mark where it ends a stretch, or is the record from

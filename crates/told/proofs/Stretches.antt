@@ -14,15 +14,15 @@ use Rattle.laws.specs.Choice.{pick}
 use Rattle.events.specs.Event.{Event}
 use Rattle.history.specs.Whole.{totals}
 use Rattle.account.specs.Account.{ends}
-use Rattle.account.specs.Histories.{accountOf, countsOf, refusals, whyAt, lastEnd, Stretch, stretches, unended, Conserved, apart, Part, Between, Each, over, inside, together}
+use Rattle.stretches.specs.Histories.{accountOf, countsOf, refusals, whyAt, lastEnd, Stretch, stretches, unended, Conserved, apart, Part, Between, Each, over, inside, together}
 use Rattle.account.specs.declared.Counts.{Counts}
 use Rattle.account.specs.declared.Why.the-variants.{Nothing}
-use Rattle.account.proofs.Ranges.{SameRange, range-stays, range-lasts}
-use Rattle.account.proofs.Stretches.{lastEnd-part, stretches-lead, all-lead, sums, each-conserves, each-differs}
+use Rattle.stretches.proofs.Ranges.{SameRange, range-stays, range-lasts}
+use Rattle.stretches.proofs.Stretches.{lastEnd-part, stretches-lead, all-lead, sums, each-conserves, each-differs}
 use Rattle.wording.specs.Wording.{stretchLine, lastLine}
-use Rattle.answers.specs.Histories.{toldOf, endOf}
-use Rattle.answers.specs.Plain.{allOf, before, lineOf, linesFor, columnsOf, addedUp}
+use Rattle.told.specs.Histories.{toldOf, endOf}
+use Rattle.told.specs.Plain.{allOf, before, lineOf, linesFor, columnsOf, addedUp}
 use Rattle.answers.specs.declared.Asked.the-variants.{Stretches}
 
 -- ---- the lines
 -- of those that have ended

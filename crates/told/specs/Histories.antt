@@ -15,10 +15,10 @@ use Rattle.benchlog.specs.declared.Begins.the-variants as begins
 use Rattle.events.specs.Event.{Event, happens}
 use Rattle.events.specs.Run.{after}
 use Rattle.entries.specs.Entries.{eventOf}
-use Rattle.account.specs.Histories.{accountOf, whyAt, lastEnd}
+use Rattle.stretches.specs.Histories.{accountOf, whyAt, lastEnd}
 use Rattle.answers.specs.Answer.{recordText, endText}
 use Rattle.answers.specs.declared.Asked.{Asked}
 use Rattle.answers.specs.declared.Asked.the-variants.{Stretches, Samples, Between}
 
 -- the events of the records of a log's bytes, behind a history; k is more than the bytes' count
 abbrev pub eventsAs : Found → List Event → (List Event → List Event) → List Event

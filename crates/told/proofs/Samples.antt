@@ -11,15 +11,15 @@ use Rattle.laws.specs.Choice.{pick}
 use Rattle.events.specs.Event.{Event, powerUp, write, read, sample, cycle, happens}
 use Rattle.events.specs.Run.{after}
 use Rattle.account.specs.Account.{less}
-use Rattle.account.specs.Histories.{countsOf, accountOf, lastEnd, unended}
+use Rattle.stretches.specs.Histories.{countsOf, accountOf, lastEnd, unended}
 use Rattle.account.specs.declared.Why.the-variants.{Nothing}
-use Rattle.account.proofs.Histories.{bounded, less-is, grows}
+use Rattle.stretches.proofs.Histories.{bounded, less-is, grows}
 use Rattle.wording.specs.Wording.{stretchLine, lastLine}
 use Rattle.answers.specs.Answer.{sampleText}
-use Rattle.answers.specs.Histories.{toldOf, endOf}
-use Rattle.answers.specs.Plain.{lineOf, sampleOf, withSamples, restOf}
+use Rattle.told.specs.Histories.{toldOf, endOf}
+use Rattle.told.specs.Plain.{lineOf, sampleOf, withSamples, restOf}
 use Rattle.answers.specs.declared.Asked.the-variants.{Samples}
-use Rattle.answers.proofs.Stretches.{rest-line}
+use Rattle.told.proofs.Stretches.{rest-line}
 
 -- how many an event lost
 lost-by : (e : Event) (es : List Event) → suc (length es) < 2 ^ 64 → less (countsOf (e ∷ es) .lost) (countsOf es .lost) ≡ countsOf (e ∷ es) .lost - countsOf es .lost

@@ -1,0 +1,3 @@
+pub mod Histories
+pub mod Stretches
+pub mod Ranges

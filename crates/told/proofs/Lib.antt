@@ -1,0 +1,4 @@
+pub mod Told
+pub mod Stretches
+pub mod Samples
+pub mod Words

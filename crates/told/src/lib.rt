@@ -1,0 +1,1 @@
+// What is printed of a log, from its events alone. There is no code here.
