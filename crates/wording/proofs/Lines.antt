@@ -1,17 +1,18 @@
 -- Texts that are spelt one after the other are one text, and no line is longer than is said.
 -- Assumes nothing.
 use Prim.Native.Nat.{ℕ, _+_, _≤_}
+use Prim.Native.String.{String}
 use mathlib.Core.Bool.{Bool, true, false}
-use mathlib.Core.List.{List, _++_}
+use mathlib.Core.List.{List, [], _∷_, _++_}
 use native.Mathlib.Omega.{arith}
 use lib.Dec.{eqb}
 use lib.IntN.{ℤ, pos, natAbs}
 use lib.ListN.{length, length-append}
 use lib.Signed.{ltZ}
+use Rattle.laws.specs.Choice.{pick}
 use Rattle.codes.specs.declared.Range.{Range}
 use Rattle.codes.specs.declared.Range.the-variants.{G2, G4, G8, G16, Reserved}
-use Rattle.laws.specs.Choice.{pick}
-use Rattle.text.specs.Text.{ascii, decimal}
+use Rattle.text.specs.Text.{ascii, decimal, mostDigits, hex}
 use Rattle.text.proofs.Texts.{length-decimal, pushed-two}
 use Rattle.account.specs.Account.{sum, differences}
 use Rattle.account.specs.declared.Account.{Account}
@@ -20,7 +21,7 @@ use Rattle.account.specs.declared.Doubt.{Doubt}
 use Rattle.account.specs.declared.Doubt.the-variants.{No, By}
 use Rattle.account.specs.declared.Why.{Why}
 use Rattle.account.specs.declared.Why.the-variants as why
-use Rattle.wording.specs.Wording.{longestWording, Spelt, column, rangeWord, doubtMark, whyLine, countsText, stretchLine, stoppedAt, lastLine, signedColumn, sampleLine, doubtText, rangeLine, totalsText, heldText, totalsLine, endedWord, shortLine}
+use Rattle.wording.specs.Wording.{longestWording, Spelt, phrase, column, rangeWord, doubtMark, whyLine, countsText, stretchLine, stoppedAt, lastLine, signedColumn, sampleLine, doubtText, rangeLine, totalsText, heldText, totalsLine, endedWord, shortLine}
 
 -- ---- spelt
 pub spelt-two : {m n : ℕ} {o₀ : List ℕ} {at : ℕ} {a o₁ : List ℕ} {p : ℕ} {b o₂ : List ℕ} {q : ℕ} → Spelt m o₀ at a o₁ p → Spelt n o₁ p b o₂ q → Spelt (m + n) o₀ at (a ++ b) o₂ q
@@ -30,81 +31,122 @@ pub spelt-within : {m n : ℕ} {out : List ℕ} {at : ℕ} {text out′ : List �
 spelt-within h s = record { pushed = s .pushed; short = omega (arith, s .short) }
 
 -- ---- lengths
-length-two : (a b : List ℕ) {m n : ℕ} → length a ≤ m → length b ≤ n → length (a ++ b) ≤ m + n
-length-two a b f g = omega (arith, length-append a b)
+record Within (most : ℕ) (text : List ℕ) : Type 0 where
+  short : length text ≤ most
 
-length-pick : (t : Bool) (a b : List ℕ) (m : ℕ) → length a ≤ m → length b ≤ m → length (pick t a b) ≤ m
-length-pick true a b m f g = f
-length-pick false a b m f g = g
+wider : {m n : ℕ} {text : List ℕ} → m ≤ n → Within m text → Within n text
+wider h w = record { short = omega (arith, w .short) }
 
-length-column : (n : ℕ) → length (column n) ≤ 21
-length-column n = length-two (decimal n) (ascii " ") {n = 1} (length-decimal n) (omega arith)
+-- one text behind the other
+two : {m n : ℕ} {a b : List ℕ} → Within m a → Within n b → Within (m + n) (a ++ b)
+two {a = a} {b = b} f g = record { short = omega (arith, length-append a b, f .short, g .short) }
 
-length-range : (r : Range) → length (rangeWord r) ≤ 3
-length-range G2 = omega arith
-length-range G4 = omega arith
-length-range G8 = omega arith
-length-range G16 = omega arith
-length-range Reserved = omega arith
+-- one of two texts
+one-of : {m : ℕ} {a b : List ℕ} (t : Bool) → Within m a → Within m b → Within m (pick t a b)
+one-of true f g = f
+one-of false f g = g
 
-length-mark : (d : Doubt) → length (doubtMark d) ≤ 2
-length-mark No = omega arith
-length-mark (By n byte) = omega arith
+letters : (s : String) → Within (length (ascii s)) (ascii s)
+letters s = record { short = omega arith }
 
-length-why : (w : Why) → length (whyLine w) ≤ 8
-length-why why.Nothing = omega arith
-length-why why.Readout = omega arith
-length-why why.Range = omega arith
-length-why why.Refused = omega arith
-length-why why.Reset = omega arith
+numeral : (n : ℕ) → Within mostDigits (decimal n)
+numeral n = record { short = length-decimal n }
 
-length-counts : (n : Counts) (held : ℕ) → length (countsText n held) ≤ 126
-length-counts n held =
-    simp length-append
-    (omega (arith, length-decimal (n .accepted), length-decimal (n .taken), length-decimal (n .lost), length-decimal (n .cleared), length-decimal held, length-decimal (n .refused)))
+phrase-within : (n : ℕ) (s : String) → Within (mostDigits + length (ascii s)) (phrase n s)
+phrase-within n s = two (numeral n) (letters s)
+
+column-within : (n : ℕ) → Within 21 (column n)
+column-within n = phrase-within n " "
+
+range-within : (r : Range) → Within 3 (rangeWord r)
+range-within G2 = record { short = omega arith }
+range-within G4 = record { short = omega arith }
+range-within G8 = record { short = omega arith }
+range-within G16 = record { short = omega arith }
+range-within Reserved = record { short = omega arith }
+
+-- ---- stretches
+mark-within : (d : Doubt) → Within 2 (doubtMark d)
+mark-within No = record { short = omega arith }
+mark-within (By n byte) = record { short = omega arith }
+
+why-within : (w : Why) → Within 8 (whyLine w)
+why-within why.Nothing = record { short = omega arith }
+why-within why.Readout = record { short = omega arith }
+why-within why.Range = record { short = omega arith }
+why-within why.Refused = record { short = omega arith }
+why-within why.Reset = record { short = omega arith }
+
+counts-within : (n : Counts) (held : ℕ) → Within 126 (countsText n held)
+counts-within n held =
+    two (column-within (n .accepted))
+    (two (column-within (n .taken)) (two (column-within (n .lost)) (two (column-within (n .cleared)) (two (column-within held) (column-within (n .refused))))))
 
 pub length-stretch : (from before behind : Account) (w : Why) → length (stretchLine from before behind w) ≤ longestWording
 unfolding stretchLine
 length-stretch from before behind w =
-    let n = differences (from .counts) (behind .counts) in
-    simp length-append
-    (omega (arith, length-decimal (sum (from .number) 1), length-decimal (behind .number), length-range (before .range), length-mark (before .doubt), length-decimal (n .accepted), length-decimal (n .taken), length-decimal (n .lost), length-decimal (n .cleared), length-decimal (behind .held), length-decimal (n .refused), length-why w))
+    let line =
+    two (column-within (sum (from .number) 1))
+    (two (column-within (behind .number))
+    (two (range-within (before .range))
+    (two (mark-within (before .doubt)) (two (counts-within (differences (from .counts) (behind .counts)) (behind .held)) (why-within w))))) in
+    omega (arith, line .short)
 
 pub length-last : (begun : Bool) (number refusal : ℕ) → length (lastLine begun number refusal) ≤ longestWording
 unfolding lastLine
 length-last begun number refusal =
-    length-pick (eqb refusal 0) _ _ longestWording
-    (simp length-append (omega (arith, length-decimal number)))
-    (simp length-append (omega (arith, length-decimal (stoppedAt begun number), length-decimal refusal)))
+    let ended = two (letters "end ") (phrase-within number "\n") in
+    let stopped = two (letters "stop ") (two (column-within (stoppedAt begun number)) (phrase-within refusal "\n")) in
+    one-of {m = longestWording} (eqb refusal 0) (wider (omega arith) ended) (wider (omega arith) stopped) .short
 
-length-signed : (z : ℤ) → length (signedColumn z) ≤ 22
+-- ---- samples
+signed-within : (z : ℤ) → Within 22 (signedColumn z)
 unfolding signedColumn
-length-signed z = length-two (pick (ltZ z (pos 0)) _ _) (column (natAbs z)) (length-pick (ltZ z (pos 0)) _ _ 1 (omega arith) (omega arith)) (length-column (natAbs z))
+signed-within z = two {m = 1} (one-of (ltZ z (pos 0)) (letters "-") (record { short = omega arith })) (column-within (natAbs z))
 
 pub length-sample : (number : ℕ) (x y z : ℤ) (lost : ℕ) → length (sampleLine number x y z lost) ≤ longestWording
 unfolding sampleLine
 length-sample number x y z lost =
-    simp length-append
-    (omega (arith, length-decimal number, length-signed x, length-signed y, length-signed z, length-decimal lost))
+    let line =
+    two (letters "sample ")
+    (two (column-within number) (two (signed-within x) (two (signed-within y) (two (signed-within z) (phrase-within lost "\n"))))) in
+    omega (arith, line .short)
 
-length-doubt : (d : Doubt) → length (doubtText d) ≤ 70
-length-doubt No = omega arith
-length-doubt (By n byte) = simp length-append (omega (arith, length-decimal n))
+-- ---- words
+doubt-within : (d : Doubt) → Within 70 (doubtText d)
+doubt-within No = record { short = omega arith }
+doubt-within (By n byte) = two (letters "?, because record ") (two (phrase-within n " wrote ") (two {m = 2} {a = hex (byte ∷ [])} (record { short = omega arith }) (letters " to 0F and was refused\n")))
 
-pub length-range-line : (a : Account) → length (rangeLine a) ≤ longestWording
+pub length-range : (a : Account) → length (rangeLine a) ≤ longestWording
 unfolding rangeLine
-length-range-line a =
-    simp length-append (omega (arith, length-decimal (sum (a .number) 1), length-range (a .range), length-doubt (a .doubt)))
+length-range a =
+    let line = two (letters "from record ") (two (phrase-within (sum (a .number) 1) ": ") (two (range-within (a .range)) (doubt-within (a .doubt)))) in
+    omega (arith, line .short)
+
+totals-within : (n : Counts) → Within 116 (totalsText n)
+totals-within n =
+    two (phrase-within (n .accepted) " accepted, ")
+    (two (phrase-within (n .taken) " taken, ") (two (phrase-within (n .lost) " lost, ") (phrase-within (n .cleared) " cleared, ")))
+
+held-within : (before behind : ℕ) → Within 66 (heldText before behind)
+held-within before behind = two (phrase-within before " held before, ") (phrase-within behind " held after\n")
 
 pub length-totals : (from to : Account) → length (totalsLine from to) ≤ longestWording
 unfolding totalsLine
 length-totals from to =
-    let n = differences (from .counts) (to .counts) in
-    simp length-append
-    (omega (arith, length-decimal (sum (from .number) 1), length-decimal (to .number), length-decimal (n .accepted), length-decimal (n .taken), length-decimal (n .lost), length-decimal (n .cleared), length-decimal (from .held), length-decimal (to .held)))
+    let line =
+    two (letters "records ")
+    (two (phrase-within (sum (from .number) 1) " to ")
+    (two (phrase-within (to .number) ": ") (two (totals-within (differences (from .counts) (to .counts))) (held-within (from .held) (to .held))))) in
+    omega (arith, line .short)
+
+ended-within : (refusal : ℕ) → Within 40 (endedWord refusal)
+ended-within refusal = one-of (eqb refusal 0) (record { short = omega arith }) (two (letters "the log was refused ") (numeral refusal))
 
 pub length-short : (refusal number asked : ℕ) → length (shortLine refusal number asked) ≤ longestWording
 unfolding shortLine
 length-short refusal number asked =
-    let e = length-pick (eqb refusal 0) (ascii "the log ends") (ascii "the log was refused " ++ decimal refusal) 40 (omega arith) (simp length-append (omega (arith, length-decimal refusal))) in
-    simp length-append (omega (arith, e, length-decimal number, length-decimal asked))
+    let line =
+    two (ended-within refusal)
+    (two (letters " after record ") (two (phrase-within number "; what came up to record ") (phrase-within asked " is not known\n"))) in
+    omega (arith, line .short)

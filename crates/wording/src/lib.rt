@@ -75,6 +75,7 @@ fn phrase(out: &mut [u8], at: usize, n: u64, words: &[u8]) -> usize
     word(out, to, words)
 }
 
+// A number and a space.
 fn put_column(out: &mut [u8], at: usize, n: u64) -> usize
     requires { ⌜ at + 21 ≤ length (now out) ⌝ }
     ensures { λ r. ⌜ Spelt 21 (now (out .entry)) at (column n) (now (out .exit)) r ⌝ }
