@@ -19,14 +19,16 @@ use Rattle.answers.specs.declared.Asked.{Asked}
 use Rattle.jobs.specs.Job.{toReplay, toAnswer, worker}
 use Rattle.jobs.specs.declared.Job.{Job}
 use Rattle.jobs.proofs.Jobs.{works, replay-printed, answer-printed}
+use Rattle.window.specs.Window.{unused}
+use Rattle.window.specs.declared.Window.{Window}
+use Rattle.window.proofs.Places.{unused-past}
 use Rattle.stream.specs.declared.State.{State}
 use Rattle.stream.specs.Pump as pump
-use Rattle.stream.specs.Pump.{pumpStart, unused, ranOver, afterRun, atFront, withRead, Refilled, NoneEmpty, nextPart, laterParts, Turns}
-use Rattle.stream.proofs.Places.{unused-after}
+use Rattle.stream.specs.Pump.{pumpStart, ranOver, ranTo, ReadMore, NoneEmpty, nextPart, laterParts, Turns}
 
 -- a pump with the job, the bytes at hand and the mark of the end of a state
 abbrev PumpedAt : State → List ℕ → List (List ℕ) → List ℕ → Type 0
-PumpedAt s buffer parts text = Pumped worker (s .job) (unused s buffer) parts (s .last) text
+PumpedAt s buffer parts text = Pumped worker (s .job) (unused (s .window) buffer) parts (s .window .last) text
 
 -- the two steps of a pump that waits, where the end of the input is not known
 module _ (j : Job) (bytes : List ℕ) (room : ℕ) {text : List ℕ} where
@@ -43,28 +45,28 @@ module _ (j : Job) (bytes : List ℕ) (room : ℕ) {text : List ℕ} where
 
 -- a read, of the next part or of nothing
 module _ (s : State) (buffer : List ℕ) (room : ℕ) {s′ : State} {buffer′ : List ℕ} (e : ranOver s buffer room .next ≡ Wait)
-    (r : Refilled (afterRun s (ranOver s buffer room .state) (ranOver s buffer room .at)) buffer s′ buffer′) where
-  bytes-are : unused s′ buffer′ ≡ drop (ranOver s buffer room .at) (unused s buffer) ++ r .part
-  bytes-are = r .bytes ∙ rw (unused-after s (ranOver s buffer room .state) (ranOver s buffer room .at) buffer)
+    (r : ReadMore (ranTo s buffer room) buffer s′ buffer′) where
+  bytes-are : unused (s′ .window) buffer′ ≡ drop (ranOver s buffer room .at) (unused (s .window) buffer) ++ r .1 .part
+  bytes-are = r .1 .bytes ∙ rw (unused-past (s .window) (ranOver s buffer room .at) buffer)
 
   -- what the next run sees
-  sees : (part : List ℕ) (last : Bool) {parts : List (List ℕ)} {text : List ℕ} → r .part ≡ part → eqb (length part) 0 ≡ last → PumpedAt s′ buffer′ parts text
-      → Pumped worker (ranOver s buffer room .state) (drop (ranOver s buffer room .at) (unused s buffer) ++ part) parts last text
+  sees : (part : List ℕ) (last : Bool) {parts : List (List ℕ)} {text : List ℕ} → r .1 .part ≡ part → eqb (length part) 0 ≡ last → PumpedAt s′ buffer′ parts text
+      → Pumped worker (ranOver s buffer room .state) (drop (ranOver s buffer room .at) (unused (s .window) buffer) ++ part) parts last text
   sees part last {parts} {text} p q later =
-      let job-is : s′ .job ≡ ranOver s buffer room .state = ap (λ (t : State). t .job) (r .state) in
-      let last-is : s′ .last ≡ last = ap (λ (t : State). t .last) (r .state) ∙ ap (λ (t : List ℕ). eqb (length t) 0) p ∙ q in
+      let job-is : s′ .job ≡ ranOver s buffer room .state = ap (λ (t : State). t .job) (r .0) in
+      let last-is : s′ .window .last ≡ last = ap (λ (t : Window). t .last) (r .1 .window) ∙ ap (λ (t : List ℕ). eqb (length t) 0) p ∙ q in
       rw (bytes-are, p, job-is, last-is) at later
 
-  read-step : (parts : List (List ℕ)) {text : List ℕ} → NoneEmpty parts → r .part ≡ nextPart parts → PumpedAt s′ buffer′ (laterParts parts) text
+  read-step : (parts : List (List ℕ)) {text : List ℕ} → NoneEmpty parts → r .1 .part ≡ nextPart parts → PumpedAt s′ buffer′ (laterParts parts) text
       → PumpedAt s buffer parts (ranOver s buffer room .text ++ text)
-  read-step [] some p later = end-step (s .job) (unused s buffer) room (s .last) (waits worker works (s .job) (unused s buffer) (s .last) room e .0) e (sees [] true p refl later)
+  read-step [] some p later = end-step (s .job) (unused (s .window) buffer) room (s .window .last) (waits worker works (s .job) (unused (s .window) buffer) (s .window .last) room e .0) e (sees [] true p refl later)
   read-step (part ∷ parts) some p later =
-      part-step (s .job) (unused s buffer) room (s .last) part parts (waits worker works (s .job) (unused s buffer) (s .last) room e .0) e (sees part false p (ne-eqb (length part) 0 (λ z. omega (arith, some .0))) later)
+      part-step (s .job) (unused (s .window) buffer) room (s .window .last) part parts (waits worker works (s .job) (unused (s .window) buffer) (s .window .last) room e .0) e (sees part false p (ne-eqb (length part) 0 (λ z. omega (arith, some .0))) later)
 
 -- each turn is a step of the pump
 pub turns-pumped : {s : State} {buffer : List ℕ} {parts : List (List ℕ)} {text : List ℕ} → NoneEmpty parts → Turns s buffer parts text → PumpedAt s buffer parts text
 turns-pumped some (pump.stopped room e) = stopped room e
-turns-pumped {s} {buffer} some (pump.emptied room e t) = emptied room e (rw (unused-after s (ranOver s buffer room .state) (ranOver s buffer room .at) buffer) at (turns-pumped some t))
+turns-pumped {s} {buffer} some (pump.emptied room e t) = emptied room e (rw (unused-past (s .window) (ranOver s buffer room .at) buffer) at (turns-pumped some t))
 turns-pumped {s} {buffer} {parts} some (pump.refilled room e r p t) = read-step s buffer room e r parts some p (turns-pumped (rest-some parts some) t)
   where
     rest-some : (ps : List (List ℕ)) → NoneEmpty ps → NoneEmpty (laterParts ps)

@@ -1,11 +1,11 @@
 -- A turn: what its run used, what it left, and what follows it.
 -- Assumes nothing.
-use Prim.Native.Nat.{ℕ, _+_, _-_, _≤_, _<_}
+use Prim.Native.Nat.{ℕ, _+_, _<_}
 use mathlib.Core.Bool.{Bool, true, false}
 use mathlib.Core.List.{List}
-use mathlib.Core.Path.{_≡_, refl, sym, ap, _∙_}
+use mathlib.Core.Path.{_≡_, refl, sym, ap, subst, _∙_}
 use native.Mathlib.Omega.{arith}
-use lib.ListN.{length, take, drop}
+use lib.ListN.{length, take}
 use lib.Seq.{length-take-le}
 use Rattle.text.proofs.Texts.{pushed-length}
 use Rattle.benchlog.specs.Format.{lengthField, longestBody}
@@ -17,11 +17,12 @@ use Rattle.follow.proofs.Stream.{never-go, waits, used-within}
 use Rattle.jobs.specs.Job.{worker}
 use Rattle.jobs.specs.declared.Ran.{Ran}
 use Rattle.jobs.proofs.Jobs.{works, kind-kept}
+use Rattle.window.specs.Window.{Within, unused, atFront, HasRoom}
+use Rattle.window.proofs.Places.{unused-few, unused-past, past-within}
 use Rattle.stream.specs.declared.State.{State}
 use Rattle.stream.specs.declared.How.{How}
 use Rattle.stream.specs.declared.How.the-variants.{On, Stopped, NotRead, NotWritten}
-use Rattle.stream.specs.Pump.{Within, unused, ranOver, afterRun, atFront, isOn, isWait, howAfter, Went, emptied, refilled, RefilledAs, TurnedAs}
-use Rattle.stream.proofs.Places.{unused-after, length-unused}
+use Rattle.stream.specs.Pump.{ranOver, afterRun, ranTo, seeing, isOn, isWait, howAfter, ReadMore, Went, emptied, refilled, ReadAs, TurnedAs}
 
 pub is-waiting : (n : Next) → isWait n ≡ true → n ≡ Wait
 is-waiting Go e = let z : _≡_ {A = ℕ} 0 1 = cc in absurd (omega arith)
@@ -29,44 +30,44 @@ is-waiting Wait e = refl
 is-waiting Full e = let z : _≡_ {A = ℕ} 0 1 = cc in absurd (omega arith)
 is-waiting Stop e = let z : _≡_ {A = ℕ} 0 1 = cc in absurd (omega arith)
 
-module _ (s : State) (buffer : List ℕ) (room : ℕ) {ran : Ran} {out out′ : List ℕ} (within : Within s (length buffer)) (is : Running worker out (ranOver s buffer room) out′ (ran .next) (ran .refusal) (ran .job) (ran .used) (ran .to)) where
+-- what a run used was there: the window moves on by all of it
+pub moves-on : (s : State) (buffer : List ℕ) (room : ℕ) → ranTo s buffer room .window .from ≡ s .window .from + ranOver s buffer room .at
+moves-on s buffer room = omega (arith, used-within worker (unused (s .window) buffer) (s .window .last) (s .job) room, unused-few (s .window) buffer)
+
+module _ (s : State) (buffer : List ℕ) (room : ℕ) {ran : Ran} {out out′ : List ℕ} (within : Within (s .window) (length buffer)) (is : Running worker out (ranOver s buffer room) out′ (ran .next) (ran .refusal) (ran .job) (ran .used) (ran .to)) where
   abbrev next : State
   next = afterRun s (ran .job) (ran .used)
 
-  next-is : next ≡ afterRun s (ranOver s buffer room .state) (ranOver s buffer room .at)
+  next-is : next ≡ ranTo s buffer room
   next-is = rw (is .state-is, is .used-is)
 
-  -- what is used was there
-  pub used-there : s .from + ran .used ≤ s .to
-  used-there = omega (arith, used-within worker (unused s buffer) (s .last) (s .job) room, is .used-is, length-unused s buffer within)
-
-  next-within : Within next (length buffer)
-  next-within = (used-there, within .1)
+  next-within : Within (next .window) (length buffer)
+  next-within = past-within (s .window) (ran .used) within
 
   -- the text stands in the buffer that was lent for it
   pub text-there : ran .to ≡ length (take (ran .to) out′)
   text-there = sym (length-take-le (ran .to) out′ (omega (arith, is .text-is .place, is .text-is .room, pushed-length (is .text-is))))
 
   -- where it waits, less than a record is left
-  pub little-left : ran .next ≡ Wait → length (unused next buffer) < lengthField + longestBody
-  little-left e = rw (unused-after s (ran .job) (ran .used) buffer, is .used-is) (few-undecided _ (waits worker works (s .job) (unused s buffer) (s .last) room (sym (is .next-is) ∙ e) .1))
+  pub little-left : ran .next ≡ Wait → length (unused (next .window) buffer) < lengthField + longestBody
+  little-left e = rw (unused-past (s .window) (ran .used) buffer, is .used-is) (few-undecided _ (waits worker works (s .job) (unused (s .window) buffer) (s .window .last) room (sym (is .next-is) ∙ e) .1))
 
   pub turned-on : isWait (ran .next) ≡ false → TurnedAs (howAfter (ran .next) (ran .refusal)) s buffer room next buffer
   turned-on = go (ran .next) refl
     where
       go : (n : Next) → ran .next ≡ n → isWait n ≡ false → TurnedAs (howAfter n (ran .refusal)) s buffer room next buffer
-      go Go e f = absurd (never-go worker works (s .job) (unused s buffer) (s .last) room (sym (is .next-is) ∙ e))
+      go Go e f = absurd (never-go worker works (s .job) (unused (s .window) buffer) (s .window .last) room (sym (is .next-is) ∙ e))
       go Wait e f = let z : _≡_ {A = ℕ} 0 1 = cc in absurd (omega arith)
       go Full e f = (emptied (sym (is .next-is) ∙ e) next-is refl, next-within)
       go Stop e f = (sym (is .next-is) ∙ e, sym (is .refusal-is))
 
-  pub turned-by-read : (how : How) (s′ : State) (buffer′ : List ℕ) → isWait (ran .next) ≡ true → RefilledAs how next buffer s′ buffer′ → TurnedAs how s buffer room s′ buffer′
-  turned-by-read how s′ buffer′ w = go how (sym (is .next-is) ∙ is-waiting (ran .next) w)
+  pub turned-by-read : (how : How) (s′ : State) (buffer′ : List ℕ) → isWait (ran .next) ≡ true → HasRoom (next .window) buffer → ReadAs how next buffer s′ buffer′ → TurnedAs how s buffer room s′ buffer′
+  turned-by-read how s′ buffer′ w room-left = go how (sym (is .next-is) ∙ is-waiting (ran .next) w)
     where
-      go : (h : How) → ranOver s buffer room .next ≡ Wait → RefilledAs h next buffer s′ buffer′ → TurnedAs h s buffer room s′ buffer′
-      go On e r = (refilled e (rw (sym next-is) (r .0)), r .1)
+      go : (h : How) → ranOver s buffer room .next ≡ Wait → ReadAs h next buffer s′ buffer′ → TurnedAs h s buffer room s′ buffer′
+      go On e r = (refilled e (subst (λ (t : State). ReadMore t buffer s′ buffer′) next-is (r .0)), r .1)
       go (Stopped refusal) e r = absurd r
-      go NotRead e r = (e, r ∙ ap (λ (t : State). atFront t buffer) next-is)
+      go NotRead e r = (e, r ∙ ap (λ (t : State). seeing t (atFront (t .window) buffer)) next-is, subst (λ (t : State). HasRoom (t .window) buffer) next-is room-left)
       go NotWritten e r = absurd r
 
 -- where the pump goes on, the job is of the kind that it was
@@ -74,14 +75,14 @@ pub on-kept : (how : How) (s : State) (buffer : List ℕ) (room : ℕ) (s′ : S
 on-kept On s buffer room s′ buffer′ e t = went (t .0)
   where
     went : Went s buffer room s′ buffer′ → s′ .job .answers ≡ s .job .answers
-    went (emptied f is b) = ap (λ (t : State). t .job .answers) is ∙ kind-kept (s .job) (unused s buffer) (s .last) room
-    went (refilled w r) = ap (λ (t : State). t .job .answers) (r .state) ∙ kind-kept (s .job) (unused s buffer) (s .last) room
+    went (emptied f is b) = ap (λ (t : State). t .job .answers) is ∙ kind-kept (s .job) (unused (s .window) buffer) (s .window .last) room
+    went (refilled w r) = ap (λ (t : State). t .job .answers) (r .0) ∙ kind-kept (s .job) (unused (s .window) buffer) (s .window .last) room
 on-kept (Stopped refusal) s buffer room s′ buffer′ e t = let z : _≡_ {A = ℕ} 0 1 = cc in absurd (omega arith)
 on-kept NotRead s buffer room s′ buffer′ e t = let z : _≡_ {A = ℕ} 0 1 = cc in absurd (omega arith)
 on-kept NotWritten s buffer room s′ buffer′ e t = let z : _≡_ {A = ℕ} 0 1 = cc in absurd (omega arith)
 
 -- and the places are within the buffer
-pub on-within : (how : How) (s : State) (buffer : List ℕ) (room : ℕ) (s′ : State) (buffer′ : List ℕ) → isOn how ≡ true → TurnedAs how s buffer room s′ buffer′ → Within s′ (length buffer)
+pub on-within : (how : How) (s : State) (buffer : List ℕ) (room : ℕ) (s′ : State) (buffer′ : List ℕ) → isOn how ≡ true → TurnedAs how s buffer room s′ buffer′ → Within (s′ .window) (length buffer)
 on-within On s buffer room s′ buffer′ e t = t .1
 on-within (Stopped refusal) s buffer room s′ buffer′ e t = let z : _≡_ {A = ℕ} 0 1 = cc in absurd (omega arith)
 on-within NotRead s buffer room s′ buffer′ e t = let z : _≡_ {A = ℕ} 0 1 = cc in absurd (omega arith)

@@ -1,28 +1,24 @@
 // Pumps a log from one descriptor through a job, which follows it, to another. No contract can say what is read or written: of the two
 // calls this says what they are handed and what is made of what they give; every byte of the text is the job's.
 ghost use mathlib.Core.Path.{_≡_};
-ghost use Prim.Native.Nat.{_+_, _≤_, _<_};
 ghost use lib.ListN.{length};
-ghost use mir.Syntax.{w64};
-ghost use mir.Val.{Fits};
-ghost use Rattle.laws.specs.Bytes.{movedForward};
 ghost use Rattle.follow.specs.Follow.{Running};
 ghost use Rattle.jobs.specs.Job.{worker};
-ghost use Rattle.stream.specs.Pump.{pumpStart, Within, unused, ranOver, afterRun, atFront, withRead, isOn, isWait, howAfter, RefilledAs, TurnedAs, statusOf};
+ghost use Rattle.window.specs.Window.{Within};
+ghost use Rattle.stream.specs.Pump.{pumpStart, ranOver, afterRun, isOn, isWait, howAfter, ReadAs, TurnedAs, statusOf};
 use answers::Asked;
 use follow::Next;
 use jobs::Job;
 use jobs::Ran;
 use jobs::run;
-use laws::move_forward;
+use window::Window;
+use window::refill;
 
-// The job; the bytes of the input that are there and not used, from one place of the buffer up to another; whether the input has
-// ended; and the last record of the text that is written.
+// The job; the window of the buffer, where the bytes of the input stand that are there and not used; and the last record of the text
+// that is written.
 struct State {
     job: Job,
-    from: usize,
-    to: usize,
-    last: bool,
+    window: Window,
     whole: u64,
 }
 
@@ -47,112 +43,64 @@ struct Turned {
     state: State,
 }
 
-// What a read gave: that it failed, or how many bytes.
-struct Got {
-    failed: bool,
-    count: usize,
-}
-
 // Before the first read.
 fn begin(job: Job) -> State
     ensures { λ r. ⌜ r ≡ pumpStart job ⌝ }
 {
     State {
         job,
-        from: 0,
-        to: 0,
-        last: false,
+        window: Window::start(),
         whole: 0,
     }
 }
 
 // A run over all that came and is not used.
 fn run_over(answers: bool, state: State, buffer: &[u8], text: &mut [u8]) -> Ran
-    requires { ⌜ (answers ≡ state .job .answers) × Within state (length (now buffer)) ⌝ }
+    requires { ⌜ (answers ≡ state .job .answers) × Within (state .window) (length (now buffer)) ⌝ }
     ensures { λ r. ⌜ Running worker (now (text .entry)) (ranOver state (now (buffer .entry)) (length (now (text .entry)))) (now (text .exit)) (r .next) (r .refusal) (r .job) (r .used) (r .to) ⌝ }
 {
-    let job = state.job;
-    let from = state.from;
-    let to = state.to;
-    run(answers, job, &buffer[from..to], state.last, text)
+    let window = state.window;
+    let from = window.from;
+    let to = window.to;
+    run(answers, state.job, &buffer[from..to], window.last, text)
 }
 
 // The state behind a run whose text is written.
 fn after_run(state: State, ran: Ran) -> State
-    requires { ⌜ Fits w64 (state .from + ran .used) ⌝ }
     ensures { λ r. ⌜ r ≡ afterRun state (ran .job) (ran .used) ⌝ }
 {
     let job = ran.job;
+    let window = state.window;
     let whole = job.records();
     State {
         job,
-        from: state.from + ran.used,
-        to: state.to,
-        last: state.last,
+        window: window.past(ran.used),
         whole,
     }
 }
 
-// What is not used moves to the front of the buffer.
-fn move_to_front(state: State, buffer: &mut [u8]) -> State
-    ensures { λ r. ⌜ (r ≡ atFront state (now (buffer .entry))) × (now (buffer .exit) ≡ movedForward (state .from) (state .to) (now (buffer .entry))) ⌝ }
-{
-    let to = move_forward(buffer, state.from, state.to);
-    let job = state.job;
-    State {
-        job,
-        from: 0,
-        to,
-        last: state.last,
-        whole: state.whole,
-    }
-}
-
-// The state behind a read of so many bytes: of none, where the input has ended.
-fn after_read(state: State, n: usize) -> State
-    requires { ⌜ Fits w64 (state .to + n) ⌝ }
-    ensures { λ r. ⌜ r ≡ withRead state n ⌝ }
-{
-    let job = state.job;
-    State {
-        job,
-        from: state.from,
-        to: state.to + n,
-        last: n == 0,
-        whole: state.whole,
-    }
-}
-
-// A read into some room: where there is none, it would give nothing and look like the end of the input.
-fn read_into(input: i32, room: &mut [u8]) -> Got
-    requires { ⌜ 1 ≤ length (now room) ⌝ }
-    ensures { λ r. ⌜ r .count ≤ length (now (room .entry)) ⌝ }
-{
-    let got = libc::read(input, &mut *room);
-    Got {
-        failed: got < 0,
-        count: io::count(got, room),
-    }
-}
-
-fn came_to(how: How, state: State) -> Turned
-    ensures { λ r. ⌜ (r .how ≡ how) × (r .state ≡ state) ⌝ }
-{
-    Turned { how, state }
-}
-
 // More of the input behind what is not used.
-fn refill(input: i32, state: State, buffer: &mut [u8]) -> Turned
-    requires { ⌜ length (unused state (now buffer)) < length (now buffer) ⌝ }
-    ensures { λ r. ⌜ RefilledAs (r .how) state (now (buffer .entry)) (r .state) (now (buffer .exit)) ⌝ }
+fn read_more(input: i32, state: State, buffer: &mut [u8]) -> Turned
+    ensures { λ r. ⌜ ReadAs (r .how) state (now (buffer .entry)) (r .state) (now (buffer .exit)) ⌝ }
 {
-    let front = move_to_front(state, &mut *buffer);
-    let to = front.to;
-    let got = read_into(input, &mut buffer[to..]);
-    if got.failed {
-        return came_to(How::NotRead, front);
+    let more = refill(input, state.window, buffer);
+    let job = state.job;
+    let window = more.window;
+    let state = State {
+        job,
+        window,
+        whole: state.whole,
+    };
+    if more.failed {
+        return Turned {
+            how: How::NotRead,
+            state,
+        };
     }
-    came_to(How::On, after_read(front, got.count))
+    Turned {
+        how: How::On,
+        state,
+    }
 }
 
 // Whether a run waits for more of the log.
@@ -188,20 +136,26 @@ fn turn(
     buffer: &mut [u8],
     text: &mut [u8],
 ) -> Turned
-    requires { ⌜ (answers ≡ state .job .answers) × Within state (length (now buffer)) × (65536 ≡ length (now buffer)) ⌝ }
+    requires { ⌜ (answers ≡ state .job .answers) × Within (state .window) (length (now buffer)) × (65536 ≡ length (now buffer)) ⌝ }
     ensures { λ r. ⌜ TurnedAs (r .how) state (now (buffer .entry)) (length (now (text .entry))) (r .state) (now (buffer .exit)) ⌝ }
 {
     let ran = run_over(answers, state, &*buffer, &mut *text);
     let to = ran.to;
     if !io::write_all(output, &text[..to]) {
-        return came_to(How::NotWritten, state);
+        return Turned {
+            how: How::NotWritten,
+            state,
+        };
     }
     let next = after_run(state, ran);
     let why = ran.next;
     if waits(why) {
-        return refill(input, next, buffer);
+        return read_more(input, next, buffer);
     }
-    came_to(how_after(why, ran.refusal), next)
+    Turned {
+        how: how_after(why, ran.refusal),
+        state: next,
+    }
 }
 
 fn goes_on(how: How) -> bool
@@ -225,8 +179,7 @@ fn pump(input: i32, output: i32, answers: bool, job: Job) -> Ended
     let mut turns = u64::MAX;
     while 0 < turns {
         let turned = turn(input, output, answers, state, &mut buffer, &mut text);
-        let next = turned.state;
-        state = next;
+        state = turned.state;
         let how = turned.how;
         if !goes_on(how) {
             return Ended {

@@ -2,14 +2,14 @@ use mathlib.Core.Path.{_≡_, sym, _∙_}
 use native.Mathlib.Omega.{arith}
 use borrow.Author.Tests.{not-false}
 use lib.ListN.{length}
-use Rattle.stream.specs.Pump.{Within}
+use Rattle.window.specs.Window.{Within}
 use Rattle.stream.proofs.Turns.{on-kept, on-within}
 use Rattle.stream.proofs.pump.Statement.{statement}
 use Rattle.stream.proofs.pump.Tie as tie
 
 abbrev Inv-loop : tie.InvT-loop
 Inv-loop input output answers buffer₀ text₀ state₀ turns₀ buffer text state turns =
-    (answers ≡ state .job .answers) × Within state (length buffer) × (65536 ≡ length buffer) × (65536 ≡ length text)
+    (answers ≡ state .job .answers) × Within (state .window) (length buffer) × (65536 ≡ length buffer) × (65536 ≡ length text)
 
 abbrev μ-loop : tie.MeasureT-loop
 μ-loop input output answers buffer₀ text₀ state₀ turns₀ buffer text state turns = turns

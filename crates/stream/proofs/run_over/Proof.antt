@@ -1,18 +1,15 @@
 use borrow.Author.Needs.{needs}
 use denote.Ref.{now}
 use Rattle.jobs.proofs.Jobs.{in-kind}
-use Rattle.stream.specs.Pump.{unused}
-use Rattle.stream.proofs.Places.{part-between}
+use Rattle.window.proofs.Places.{unused-part}
 use Rattle.stream.proofs.run_over.Statement.{statement}
 use Rattle.stream.proofs.run_over.Tie as tie
 
 returns : tie.Need-returns
-unfolding unused
 returns c =
     let start = c .before .before .before .before .before .before .before .before in
     let s = start .args .state in
-    let part = part-between (s .from) (s .to) (now (start .args .buffer)) (start .pre .1 .0) (start .pre .1 .1) in
-    rw (part, in-kind (start .args .answers) (s .job) (start .pre .0)) at (c .before .before .run .ensures)
+    rw (unused-part (s .window) (now (start .args .buffer)) (start .pre .1), in-kind (start .args .answers) (s .job) (start .pre .0)) at (c .before .before .run .ensures)
 
 pub run-over-spec : {M : Type 1} → statement M
 run-over-spec =

@@ -1,0 +1,10 @@
+use mathlib.Core.Path.{refl}
+use borrow.Author.Needs.{needs}
+use Rattle.window.proofs.after_read.Statement.{statement}
+use Rattle.window.proofs.after_read.Tie as tie
+
+returns : tie.Need-returns
+returns c = refl
+
+pub after-read-spec : {M : Type 1} → statement M
+after-read-spec = tie.close (tie.spec (λ c. search needs) returns)
