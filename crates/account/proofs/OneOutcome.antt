@@ -3,34 +3,18 @@
 use mathlib.Core.Path.{refl}
 use Rattle.laws.specs.Outcome.{Settled}
 use Rattle.laws.proofs.Outcome.{settles, meet}
-use Rattle.account.proofs.ends_stretch as ends-stretch
 use Rattle.account.proofs.why_of_write as why-of-write
 use Rattle.account.proofs.why_of_read as why-of-read
-use Rattle.account.proofs.Counts.none as none
-use Rattle.account.proofs.Counts.since as since
-use Rattle.account.proofs.Account.first as first
-use Rattle.account.proofs.Account.after_write as after-write
-use Rattle.account.proofs.Account.after_read as after-read
-use Rattle.account.proofs.Account.after_sample as after-sample
-use Rattle.account.proofs.Account.after_cycle as after-cycle
-
-pub ends-stretch-settled : Settled ends-stretch.ended (λ M. ends-stretch.clauses) (λ M. ends-stretch.spec)
-ends-stretch-settled = settles (λ κs a r r′ s s′ p q. (meet p q, refl))
+use Rattle.account.proofs.after_write as after-write
+use Rattle.account.proofs.after_read as after-read
+use Rattle.account.proofs.after_sample as after-sample
+use Rattle.account.proofs.after_cycle as after-cycle
 
 pub why-of-write-settled : Settled why-of-write.ended (λ M. why-of-write.clauses) (λ M. why-of-write.spec)
 why-of-write-settled = settles (λ κs a r r′ s s′ p q. (meet p q, refl))
 
 pub why-of-read-settled : Settled why-of-read.ended (λ M. why-of-read.clauses) (λ M. why-of-read.spec)
 why-of-read-settled = settles (λ κs a r r′ s s′ p q. (meet p q, refl))
-
-pub none-settled : Settled none.ended (λ M. none.clauses) (λ M. none.spec)
-none-settled = settles (λ κs a r r′ s s′ p q. (meet p q, refl))
-
-pub since-settled : Settled since.ended (λ M. since.clauses) (λ M. since.spec)
-since-settled = settles (λ κs a r r′ s s′ p q. (meet p q, refl))
-
-pub first-settled : Settled first.ended (λ M. first.clauses) (λ M. first.spec)
-first-settled = settles (λ κs a r r′ s s′ p q. (meet p q, refl))
 
 pub after-write-settled : Settled after-write.ended (λ M. after-write.clauses) (λ M. after-write.spec)
 after-write-settled = settles (λ κs a r r′ s s′ p q. (meet p q, refl))

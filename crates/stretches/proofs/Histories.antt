@@ -40,9 +40,10 @@ use Rattle.history.specs.History.{accelerometer, readsOut, control, frame, sett
 use Rattle.history.specs.Whole.{Totals, totalled, heldNow, totals}
 use Rattle.history.proofs.Conserve.{demand3, over-clears-here, device-holds, lawful}
 use Rattle.history.proofs.Whole.{few, next-totals, next-held}
-use Rattle.account.specs.declared.Doubt.the-variants.{No, By}
-use Rattle.account.specs.declared.Why.the-variants as why
-use Rattle.account.specs.Account.{sum, less, differences, left, arrived, refusedBy, countsAfter, whyOf, whyOfWrite, whyOfRead, doubtAfter, doubtBehind, firstAccount, accountAfter}
+use Rattle.counts.specs.declared.Doubt.the-variants.{No, By}
+use Rattle.counts.specs.declared.Why.the-variants as why
+use Rattle.counts.specs.Counts.{sum, less, differences, left, arrived, firstAccount}
+use Rattle.account.specs.Account.{refusedBy, countsAfter, whyOf, whyOfWrite, whyOfRead, doubtAfter, doubtBehind, accountAfter}
 use Rattle.stretches.specs.Histories.{refusals, countsOf, doubtOf, accountOf, stepped, whyAt, Conserved, Grown, apart}
 
 -- ---- what the device says

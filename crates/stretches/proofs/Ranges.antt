@@ -18,10 +18,10 @@ use Rattle.events.proofs.Runs.{bank-length}
 use Rattle.rules.specs.Proper.{isStored}
 use Rattle.rules.proofs.Registers as registers
 use Rattle.rules.proofs.Writes.{byte-written}
-use Rattle.account.specs.Account.{ends}
+use Rattle.counts.specs.Counts.{ends}
 use Rattle.stretches.specs.Histories.{accountOf, doubtOf, whyAt, lastEnd}
-use Rattle.account.specs.declared.Account.{Account}
-use Rattle.account.specs.declared.Why.the-variants as why
+use Rattle.counts.specs.declared.Account.{Account}
+use Rattle.counts.specs.declared.Why.the-variants as why
 
 -- no code that the sheet does not define is ever in force
 pub range-known : (es : List Event) → isReservedRange (accountOf es .range) ≡ false

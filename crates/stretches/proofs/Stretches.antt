@@ -14,8 +14,8 @@ use Rattle.codes.specs.Range.{rangeOf, isReservedRange}
 use Rattle.registers.specs.Deeds.{isReset}
 use Rattle.events.specs.Event.{Event, powerUp, write, read, sample, cycle}
 use Rattle.history.specs.History.{readsOut}
-use Rattle.account.specs.declared.Why.the-variants as why
-use Rattle.account.specs.Account.{differences, ends}
+use Rattle.counts.specs.declared.Why.the-variants as why
+use Rattle.counts.specs.Counts.{differences, ends}
 use Rattle.stretches.specs.Histories.{countsOf, accountOf, whyAt, isEnd, lastEnd, Stretch, stretches, Adjacent, Conserved, apart, Part, unended, Between, EndAt, Each, over, inside, together}
 use Rattle.stretches.proofs.Histories.{grows, conserved, differences-are}
 

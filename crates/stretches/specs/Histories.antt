@@ -18,13 +18,14 @@ use Rattle.events.specs.Run.{after}
 use Rattle.events.specs.Views.{isPowerUp, atWrite, atRead}
 use Rattle.history.specs.History.{accelerometer, readsOut}
 use Rattle.history.specs.Whole.{heldNow, totals}
-use Rattle.account.specs.declared.Account.{Account}
-use Rattle.account.specs.declared.Counts.{Counts}
-use Rattle.account.specs.declared.Doubt.{Doubt}
-use Rattle.account.specs.declared.Doubt.the-variants.{No, By}
-use Rattle.account.specs.declared.Why.{Why}
-use Rattle.account.specs.declared.Why.the-variants as why
-use Rattle.account.specs.Account.{ends, firstAccount, accountAfter}
+use Rattle.counts.specs.declared.Account.{Account}
+use Rattle.counts.specs.declared.Counts.{Counts}
+use Rattle.counts.specs.declared.Doubt.{Doubt}
+use Rattle.counts.specs.declared.Doubt.the-variants.{No, By}
+use Rattle.counts.specs.declared.Why.{Why}
+use Rattle.counts.specs.declared.Why.the-variants as why
+use Rattle.counts.specs.Counts.{ends, firstAccount}
+use Rattle.account.specs.Account.{accountAfter}
 
 -- how many events the device refused
 unfoldable pub refusals : List Event → ℕ

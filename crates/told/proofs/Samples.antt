@@ -10,9 +10,9 @@ use lib.ListN.{length}
 use Rattle.laws.specs.Choice.{pick}
 use Rattle.events.specs.Event.{Event, powerUp, write, read, sample, cycle, happens}
 use Rattle.events.specs.Run.{after}
-use Rattle.account.specs.Account.{less}
+use Rattle.counts.specs.Counts.{less}
 use Rattle.stretches.specs.Histories.{countsOf, accountOf, lastEnd, unended}
-use Rattle.account.specs.declared.Why.the-variants.{Nothing}
+use Rattle.counts.specs.declared.Why.the-variants.{Nothing}
 use Rattle.stretches.proofs.Histories.{bounded, less-is, grows}
 use Rattle.wording.specs.Wording.{stretchLine, lastLine}
 use Rattle.answers.specs.Answer.{sampleText}

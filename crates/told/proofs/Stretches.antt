@@ -13,10 +13,10 @@ use borrow.Author.Tests.{eqb-true, eqb-false}
 use Rattle.laws.specs.Choice.{pick}
 use Rattle.events.specs.Event.{Event}
 use Rattle.history.specs.Whole.{totals}
-use Rattle.account.specs.Account.{ends}
+use Rattle.counts.specs.Counts.{ends}
 use Rattle.stretches.specs.Histories.{accountOf, countsOf, refusals, whyAt, lastEnd, Stretch, stretches, unended, Conserved, apart, Part, Between, Each, over, inside, together}
-use Rattle.account.specs.declared.Counts.{Counts}
-use Rattle.account.specs.declared.Why.the-variants.{Nothing}
+use Rattle.counts.specs.declared.Counts.{Counts}
+use Rattle.counts.specs.declared.Why.the-variants.{Nothing}
 use Rattle.stretches.proofs.Ranges.{SameRange, range-stays, range-lasts}
 use Rattle.stretches.proofs.Stretches.{lastEnd-part, stretches-lead, all-lead, sums, each-conserves, each-differs}
 use Rattle.wording.specs.Wording.{stretchLine, lastLine}

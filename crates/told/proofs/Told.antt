@@ -22,7 +22,7 @@ use Rattle.events.specs.Event.{Event, happens}
 use Rattle.events.specs.Run.{after}
 use Rattle.entries.specs.Entries.{eventOf}
 use Rattle.follow.specs.Whole.{linesAs, linesOf, begunAs, printedFrom}
-use Rattle.account.specs.Account.{ends}
+use Rattle.counts.specs.Counts.{ends}
 use Rattle.stretches.specs.Histories.{accountOf, whyAt, lastEnd}
 use Rattle.stretches.proofs.Histories.{account-first, account-next, why-is}
 use Rattle.answers.specs.Answer.{start, at, recordText, markAfter, answerer, printed}

@@ -15,9 +15,9 @@ use Rattle.codes.specs.Range.{rangeOf, isReservedRange}
 use Rattle.registers.specs.Deeds.{isReset}
 use Rattle.events.specs.Event.{Event, powerUp, write, read, sample, cycle}
 use Rattle.history.specs.History.{readsOut}
-use Rattle.account.specs.Account.{ends}
+use Rattle.counts.specs.Counts.{ends}
 use Rattle.stretches.specs.Histories.{accountOf, whyAt, isOfRange, lastEnd, Stretch, stretches, Part, Between, Each, inside}
-use Rattle.account.specs.declared.Why.the-variants as why
+use Rattle.counts.specs.declared.Why.the-variants as why
 use Rattle.stretches.proofs.Histories.{differences-are}
 use Rattle.stretches.proofs.Stretches.{lastEnd-part, sums, each-differs}
 use Rattle.wording.specs.Wording.{totalsLine, shortLine}

@@ -9,9 +9,9 @@ use Rattle.registers.specs.Answers.{accepted}
 use Rattle.events.specs.Event.{Event, happens}
 use Rattle.events.specs.Run.{after}
 use Rattle.events.specs.Views.{atSample}
-use Rattle.account.specs.Account.{differences, ends}
+use Rattle.counts.specs.Counts.{differences, ends}
 use Rattle.stretches.specs.Histories.{countsOf, accountOf, whyAt, isOfRange, lastEnd, Stretch, stretches, unended, Between, over}
-use Rattle.account.specs.declared.Counts.{Counts}
+use Rattle.counts.specs.declared.Counts.{Counts}
 use Rattle.wording.specs.Wording.{stretchLine, sampleLine, rangeLine}
 
 -- ---- stretches

@@ -6,10 +6,10 @@ use lib.IntN.{pos, negsuc}
 use Rattle.codes.specs.declared.Range.{Range}
 use Rattle.codes.specs.declared.Range.the-variants.{G2, G4, G8, G16}
 use Rattle.text.specs.Text.{ascii, decimal, lastDigits}
-use Rattle.account.specs.declared.Account.{Account}
-use Rattle.account.specs.declared.Doubt.the-variants.{No, By}
-use Rattle.account.specs.declared.Why.the-variants.{Nothing, Readout, Refused, Reset}
-use Rattle.account.specs.declared.Why.the-variants as why
+use Rattle.counts.specs.declared.Account.{Account}
+use Rattle.counts.specs.declared.Doubt.the-variants.{No, By}
+use Rattle.counts.specs.declared.Why.the-variants.{Nothing, Readout, Refused, Reset}
+use Rattle.counts.specs.declared.Why.the-variants as why
 use Rattle.wording.specs.Wording.{stretchLine, lastLine, signedColumn, sampleLine, rangeLine, totalsLine, shortLine}
 
 abbrev pub with-range : Range → Account

@@ -14,13 +14,13 @@ use Rattle.codes.specs.declared.Range.{Range}
 use Rattle.codes.specs.declared.Range.the-variants.{G2, G4, G8, G16, Reserved}
 use Rattle.text.specs.Text.{ascii, decimal, mostDigits, hex}
 use Rattle.text.proofs.Texts.{length-decimal, pushed-two}
-use Rattle.account.specs.Account.{sum, differences}
-use Rattle.account.specs.declared.Account.{Account}
-use Rattle.account.specs.declared.Counts.{Counts}
-use Rattle.account.specs.declared.Doubt.{Doubt}
-use Rattle.account.specs.declared.Doubt.the-variants.{No, By}
-use Rattle.account.specs.declared.Why.{Why}
-use Rattle.account.specs.declared.Why.the-variants as why
+use Rattle.counts.specs.Counts.{sum, differences}
+use Rattle.counts.specs.declared.Account.{Account}
+use Rattle.counts.specs.declared.Counts.{Counts}
+use Rattle.counts.specs.declared.Doubt.{Doubt}
+use Rattle.counts.specs.declared.Doubt.the-variants.{No, By}
+use Rattle.counts.specs.declared.Why.{Why}
+use Rattle.counts.specs.declared.Why.the-variants as why
 use Rattle.wording.specs.Wording.{longestWording, Spelt, phrase, column, rangeWord, doubtMark, whyLine, countsText, stretchLine, stoppedAt, lastLine, signedColumn, sampleLine, doubtText, rangeLine, totalsText, heldText, totalsLine, endedWord, shortLine}
 
 -- ---- spelt

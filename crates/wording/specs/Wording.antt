@@ -12,14 +12,14 @@ use Rattle.laws.specs.Choice.{pick}
 use Rattle.codes.specs.declared.Range.{Range}
 use Rattle.codes.specs.declared.Range.the-variants.{G2, G4, G8, G16, Reserved}
 use Rattle.text.specs.Text.{ascii, decimal, hex, Pushed}
-use Rattle.account.specs.Account.{sum, differences}
-use Rattle.account.specs.declared.Account.{Account}
-use Rattle.account.specs.declared.Counts.{Counts}
-use Rattle.account.specs.declared.Doubt.{Doubt}
-use Rattle.account.specs.declared.Doubt.the-variants.{No, By}
-use Rattle.account.specs.declared.Why.{Why}
-use Rattle.account.specs.declared.Why.the-variants.{Nothing, Readout, Refused, Reset}
-use Rattle.account.specs.declared.Why.the-variants as why
+use Rattle.counts.specs.Counts.{sum, differences}
+use Rattle.counts.specs.declared.Account.{Account}
+use Rattle.counts.specs.declared.Counts.{Counts}
+use Rattle.counts.specs.declared.Doubt.{Doubt}
+use Rattle.counts.specs.declared.Doubt.the-variants.{No, By}
+use Rattle.counts.specs.declared.Why.{Why}
+use Rattle.counts.specs.declared.Why.the-variants.{Nothing, Readout, Refused, Reset}
+use Rattle.counts.specs.declared.Why.the-variants as why
 
 -- no line is longer
 abbrev pub longestWording : ℕ

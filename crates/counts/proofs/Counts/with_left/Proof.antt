@@ -1,5 +1,5 @@
-use Rattle.account.proofs.Counts.with_left.Statement.{statement}
-use Rattle.account.proofs.Counts.with_left.Tie as tie
+use Rattle.counts.proofs.Counts.with_left.Statement.{statement}
+use Rattle.counts.proofs.Counts.with_left.Tie as tie
 
 pub with-left-spec : {M : Type 1} → statement M
 with-left-spec =

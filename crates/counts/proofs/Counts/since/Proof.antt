@@ -1,5 +1,5 @@
-use Rattle.account.proofs.Counts.since.Statement.{statement}
-use Rattle.account.proofs.Counts.since.Tie as tie
+use Rattle.counts.proofs.Counts.since.Statement.{statement}
+use Rattle.counts.proofs.Counts.since.Tie as tie
 
 pub since-spec : {M : Type 1} → statement M
 since-spec =

@@ -1,5 +1,5 @@
-use Rattle.account.proofs.Account.first.Statement.{statement}
-use Rattle.account.proofs.Account.first.Tie as tie
+use Rattle.counts.proofs.Account.first.Statement.{statement}
+use Rattle.counts.proofs.Account.first.Tie as tie
 
 pub first-spec : {M : Type 1} → statement M
 first-spec =

@@ -1,6 +1,6 @@
 use Rattle.account.specs.Account.{countsAfter, accountAfter}
-use Rattle.account.proofs.Account.after_read.Statement.{statement}
-use Rattle.account.proofs.Account.after_read.Tie as tie
+use Rattle.account.proofs.after_read.Statement.{statement}
+use Rattle.account.proofs.after_read.Tie as tie
 
 pub after-read-spec : {M : Type 1} → statement M
 unfolding countsAfter accountAfter

@@ -1,5 +1,5 @@
-use Rattle.account.proofs.Counts.with_arrived.Statement.{statement}
-use Rattle.account.proofs.Counts.with_arrived.Tie as tie
+use Rattle.counts.proofs.Counts.with_arrived.Statement.{statement}
+use Rattle.counts.proofs.Counts.with_arrived.Tie as tie
 
 pub with-arrived-spec : {M : Type 1} → statement M
 with-arrived-spec =

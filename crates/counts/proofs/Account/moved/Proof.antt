@@ -1,5 +1,5 @@
-use Rattle.account.proofs.Account.moved.Statement.{statement}
-use Rattle.account.proofs.Account.moved.Tie as tie
+use Rattle.counts.proofs.Account.moved.Statement.{statement}
+use Rattle.counts.proofs.Account.moved.Tie as tie
 
 pub moved-spec : {M : Type 1} → statement M
 moved-spec =

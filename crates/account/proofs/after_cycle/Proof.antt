@@ -1,6 +1,6 @@
 use Rattle.account.specs.Account.{countsAfter, accountAfter}
-use Rattle.account.proofs.Account.after_cycle.Statement.{statement}
-use Rattle.account.proofs.Account.after_cycle.Tie as tie
+use Rattle.account.proofs.after_cycle.Statement.{statement}
+use Rattle.account.proofs.after_cycle.Tie as tie
 
 pub after-cycle-spec : {M : Type 1} → statement M
 unfolding countsAfter accountAfter

@@ -1,6 +1,6 @@
 use Rattle.account.specs.Account.{countsAfter, accountAfter}
-use Rattle.account.proofs.Account.after_write.Statement.{statement}
-use Rattle.account.proofs.Account.after_write.Tie as tie
+use Rattle.account.proofs.after_write.Statement.{statement}
+use Rattle.account.proofs.after_write.Tie as tie
 
 pub after-write-spec : {M : Type 1} → statement M
 unfolding countsAfter accountAfter

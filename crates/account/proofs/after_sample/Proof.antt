@@ -1,6 +1,6 @@
 use Rattle.account.specs.Account.{countsAfter, accountAfter}
-use Rattle.account.proofs.Account.after_sample.Statement.{statement}
-use Rattle.account.proofs.Account.after_sample.Tie as tie
+use Rattle.account.proofs.after_sample.Statement.{statement}
+use Rattle.account.proofs.after_sample.Tie as tie
 
 pub after-sample-spec : {M : Type 1} → statement M
 unfolding countsAfter accountAfter
