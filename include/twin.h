@@ -21,10 +21,10 @@
 
 /* The version of this header and of the library beside it: the last number moves where no name does, the middle one where names are
  * added, the first where a caller may have to be changed. */
-#define TWIN_VERSION_MAJOR 1
+#define TWIN_VERSION_MAJOR 2
 #define TWIN_VERSION_MINOR 0
 #define TWIN_VERSION_PATCH 0
-#define TWIN_VERSION "1.0.0"
+#define TWIN_VERSION "2.0.0"
 
 #ifdef __cplusplus
 extern "C" {
@@ -32,20 +32,24 @@ extern "C" {
 
 /* ---- numbers */
 
-/* What an event answers. */
+/* What an event answers. 3, which version 1 gave for whatever the twin lacks, is never given again: 11 to 14 say which kind of thing it
+ * is. */
 enum twin_answer {
-    TWIN_DONE = 0,          /* done, or a write that the chip ignores */
-    TWIN_NO_ADDRESS = 1,    /* address above 0x3F */
-    TWIN_RESERVED_CODE = 2, /* write of a code that the sheet reserves */
-    TWIN_NOT_MODELLED = 3,  /* write of a setting that the twin lacks */
-    TWIN_OUT_OF_RANGE = 4,  /* x, y or z outside -2048..2047 */
-    TWIN_BAD_LENGTH = 5,    /* read length 0 or above 192 */
-    TWIN_PAST_END = 6,      /* read starting below 0x3F that would pass 0x3E */
-    TWIN_NO_KIND = 8,       /* a kind of event that does not exist */
+    TWIN_DONE = 0,             /* done, or a write that the chip ignores */
+    TWIN_NO_ADDRESS = 1,       /* address above 0x3F */
+    TWIN_RESERVED_CODE = 2,    /* write of a code that the sheet reserves */
+    TWIN_OUT_OF_RANGE = 4,     /* x, y or z outside -2048..2047 */
+    TWIN_BAD_LENGTH = 5,       /* read length 0 or above 192 */
+    TWIN_PAST_END = 6,         /* read starting below 0x3F that would pass 0x3E */
+    TWIN_NO_KIND = 8,          /* a kind of event that does not exist */
+    TWIN_NO_DETECTOR = 11,     /* write of a detector bit in 0x16 to 0x18 */
+    TWIN_NO_POWER_MODE = 12,   /* write of a power mode in 0x11 */
+    TWIN_NO_TEST_OR_TRIM = 13, /* write of self-test, memory, calibration or offset in 0x32, 0x33, 0x36, 0x38 to 0x3A */
+    TWIN_NO_LATCH_TIME = 14,   /* write of a latch time in 0x21 */
     /* for a call that is no event at all; these are looked at first */
-    TWIN_MISFIT = 253,      /* power-up of a record that is not aligned, or with a library that needs more than TWIN_ROOM */
-    TWIN_BAD_BUFFER = 254,  /* NULL with a count that is not 0, or a buffer that overlaps the record */
-    TWIN_NOT_POWERED = 255  /* NULL for a record, or one that was not powered up */
+    TWIN_MISFIT = 253,         /* power-up of a record that is not aligned, or with a library that needs more than TWIN_ROOM */
+    TWIN_BAD_BUFFER = 254,     /* NULL with a count that is not 0, or a buffer that overlaps the record */
+    TWIN_NOT_POWERED = 255     /* NULL for a record, or one that was not powered up */
 };
 
 /* The kinds of event, as in the bench log. */
@@ -160,11 +164,14 @@ static inline const char *twin_answer_name(uint8_t answer) {
     case TWIN_DONE: return "done";
     case TWIN_NO_ADDRESS: return "address above 0x3F";
     case TWIN_RESERVED_CODE: return "code that the sheet reserves";
-    case TWIN_NOT_MODELLED: return "setting that the twin lacks";
     case TWIN_OUT_OF_RANGE: return "sample outside -2048..2047";
     case TWIN_BAD_LENGTH: return "read length 0 or above 192";
     case TWIN_PAST_END: return "read that would pass 0x3E";
     case TWIN_NO_KIND: return "kind of event that does not exist";
+    case TWIN_NO_DETECTOR: return "detector that the twin lacks";
+    case TWIN_NO_POWER_MODE: return "power mode that the twin lacks";
+    case TWIN_NO_TEST_OR_TRIM: return "self-test, memory, calibration or offset that the twin lacks";
+    case TWIN_NO_LATCH_TIME: return "latch time that the twin lacks";
     case TWIN_MISFIT: return "record that does not fit the library";
     case TWIN_BAD_BUFFER: return "no buffer, or one that overlaps the record";
     case TWIN_NOT_POWERED: return "record that was not powered up";

@@ -149,7 +149,7 @@ static void p8_to_p10(void)
     sample_x(&t, 0);
     sample_x(&t, -5);
     check(gives(&t, 0x09, "040009"), "P9 afresh 0, -5: 0x0B is 09");
-    check(peer_write(&t, 0x21, 0x01) == 3 && gives(&t, 0x21, "00"), "P10 0x21=01 gives 3");
+    check(peer_write(&t, 0x21, 0x01) == 14 && gives(&t, 0x21, "00"), "P10 0x21=01 gives 14");
     check(gives(&t, 0x09, "04"), "P10 the refused write cleared nothing");
     check(peer_write(&t, 0x21, 0x07) == 0 && gives(&t, 0x21, "07"), "P10 07 gives 0");
 }
@@ -179,22 +179,54 @@ static const char table[] =
     "32:00/07 33:F4/00 34:00/07 35:FF/00 36:10/00 37:00/7F 38:00/FF 39:00/FF 3A:00/FF 3B:00/FF "
     "3C:00/FF 3D:FF/00 3E:00/C3";
 
-static const char refused_3[] = "11:E0 16:F0 17:0F 18:07 32:03 33:0B 36:E7 38:FF 39:FF 3A:FF";
+/* What the twin lacks, in the order of the request: the bits that are refused where one of them is
+   1, the bits that are not, and the number. 0x21 is apart, as it has codes and not bits. */
+static const struct {
+    unsigned address;
+    const char *refused, *accepted;
+    unsigned number;
+} lacking[] = {
+    {0x16, "7654", "3210", 11}, /* detectors */
+    {0x17, "3210", "7654", 11},
+    {0x18, "210", "76543", 11},
+    {0x11, "765", "43210", 12}, /* power modes */
+    {0x32, "10", "765432", 13}, /* self-test */
+    {0x33, "310", "76542", 13}, /* memory */
+    {0x36, "765210", "43", 13}, /* calibration */
+    {0x38, "76543210", "", 13}, /* offsets */
+    {0x39, "76543210", "", 13},
+    {0x3A, "76543210", "", 13},
+};
 
-static enum peer_answer expected_answer(unsigned address, unsigned byte)
+enum { LACKING = sizeof lacking / sizeof *lacking };
+
+static unsigned bits(const char *numbers)
 {
-    unsigned of, bits;
-    int taken;
+    unsigned byte = 0;
 
+    for (; *numbers != '\0'; numbers++)
+        byte |= 1u << (*numbers - '0');
+    return byte;
+}
+
+static bool nibble_among(unsigned byte, const char *nibbles)
+{
+    return strchr(nibbles, "0123456789ABCDEF"[byte & 15]) != NULL;
+}
+
+static unsigned expected_answer(unsigned address, unsigned byte)
+{
+    if (address > 0x3F)
+        return 1;
     if (address == 0x0F)
-        return strchr("358C", "0123456789ABCDEF"[byte & 15]) ? 0 : 2;
+        return nibble_among(byte, "358C") ? 0 : 2;
     if (address == 0x3E)
         return byte < 0xC0 ? 0 : 2;
     if (address == 0x21)
-        return strchr("087F", "0123456789ABCDEF"[byte & 15]) ? 0 : 3;
-    for (const char *p = refused_3; sscanf(p, "%x:%x%n", &of, &bits, &taken) == 2; p += taken)
-        if (of == address && byte & bits)
-            return 3;
+        return nibble_among(byte, "087F") ? 0 : 14;
+    for (int i = 0; i < LACKING; i++)
+        if (lacking[i].address == address && byte & bits(lacking[i].refused))
+            return lacking[i].number;
     return 0;
 }
 
@@ -203,7 +235,7 @@ static bool row_holds(unsigned address, unsigned reset, unsigned mask)
     for (unsigned byte = 0; byte < 256; byte++) {
         struct peer t;
         uint8_t got;
-        enum peer_answer wanted = expected_answer(address, byte);
+        unsigned wanted = expected_answer(address, byte);
         unsigned after = wanted ? reset : (reset & ~mask) | (byte & mask);
 
         peer_power_up(&t);
@@ -225,6 +257,103 @@ static void register_table(void)
     for (const char *p = table; sscanf(p, "%x:%x/%x%n", &address, &reset, &mask, &taken) == 3;
          p += taken)
         check(row_holds(address, reset, mask), "register row %02X", address);
+}
+
+/* ---- what the twin lacks ---- */
+
+/* A twin in which any effect of a write shows: overrun, each status, a lock on x, and bytes other
+   than those of reset. */
+static struct peer busy(void)
+{
+    struct peer t = fresh(0x16, 0x07);
+
+    peer_write(&t, 0x11, 0x1E);
+    peer_write(&t, 0x17, 0x70);
+    peer_write(&t, 0x18, 0x08);
+    peer_write(&t, 0x21, 0x0F);
+    peer_write(&t, 0x30, 0x01);
+    peer_write(&t, 0x32, 0x04);
+    peer_sample(&t, 0, 0, 0, 1);
+    peer_sample(&t, -2048, 2047, 5, 2);
+    reads(&t, 0x02, 1);
+    return t;
+}
+
+static void write_gives(unsigned address, unsigned byte, unsigned wanted)
+{
+    struct peer t = busy(), before = t;
+
+    check(peer_write(&t, (uint8_t)address, (uint8_t)byte) == wanted, "%02X=%02X is %u", address,
+          byte, wanted);
+    if (wanted != 0)
+        check(memcmp(&t, &before, sizeof t) == 0, "%02X=%02X changes nothing", address, byte);
+}
+
+static void bits_lacking(void)
+{
+    for (int i = 0; i < LACKING; i++) {
+        unsigned address = lacking[i].address, number = lacking[i].number;
+        unsigned refused = bits(lacking[i].refused), accepted = bits(lacking[i].accepted);
+
+        check((refused ^ accepted) == 0xFF, "each bit of %02X is on one side", address);
+        for (unsigned bit = 1; bit < 0x100; bit <<= 1) {
+            write_gives(address, bit, bit & refused ? number : 0);
+            write_gives(address, bit | accepted, bit & refused ? number : 0);
+        }
+        write_gives(address, 0x00, 0);
+        write_gives(address, refused, number);
+        write_gives(address, 0xFF, number);
+    }
+}
+
+static void power_modes_at_once(void)
+{
+    write_gives(0x11, 0xC0, 12);
+    write_gives(0x11, 0xA0, 12);
+    write_gives(0x11, 0x60, 12);
+    write_gives(0x11, 0xE0, 12);
+}
+
+/* Bit 7 is a command, bits 6:4 are ignored: neither changes which nibbles are refused. */
+static void latch_times(void)
+{
+    for (unsigned nibble = 0; nibble < 16; nibble++) {
+        unsigned wanted = nibble_among(nibble, "087F") ? 0 : 14;
+
+        write_gives(0x21, nibble, wanted);
+        for (unsigned bit = 0x10; bit < 0x100; bit <<= 1)
+            write_gives(0x21, bit | nibble, wanted);
+        write_gives(0x21, 0xF0 | nibble, wanted);
+    }
+}
+
+static void every_write(void)
+{
+    struct peer before = busy(), t = before;
+    int given_3 = 0, others = 0, changes = 0;
+
+    check(gives(&t, 0x09, "04E00900FF81"), "the busy twin has each status and overrun set");
+    for (unsigned address = 0; address < 0x100; address++)
+        for (unsigned byte = 0; byte < 0x100; byte++) {
+            unsigned answer;
+
+            t = before;
+            answer = peer_write(&t, (uint8_t)address, (uint8_t)byte);
+            given_3 += answer == 3;
+            others += answer != expected_answer(address, byte);
+            changes += answer != 0 && memcmp(&t, &before, sizeof t) != 0;
+        }
+    check(given_3 == 0, "%d writes are answered 3", given_3);
+    check(others == 0, "%d writes are answered other than the rules say", others);
+    check(changes == 0, "%d refused writes change the twin", changes);
+}
+
+static void refusals_by_register(void)
+{
+    bits_lacking();
+    power_modes_at_once();
+    latch_times();
+    every_write();
 }
 
 /* ---- further edges ---- */
@@ -326,7 +455,7 @@ static void runs(void)
     peer_sample(&t, 0, 20, 5, 0);
     peer_sample(&t, 0, 30, 15, 0);
     check(gives(&t, 0x09, "040002"), "y before z, positive");
-    check(peer_write(&t, 0x16, 0x16) == 3 && gives(&t, 0x09, "04"), "refused 16 clears nothing");
+    check(peer_write(&t, 0x16, 0x16) == 11 && gives(&t, 0x09, "04"), "refused 16 clears nothing");
     check(peer_write(&t, 0x21, 0x87) == 0 && gives(&t, 0x09, "000000"), "0x21 clears");
     peer_sample(&t, 0, 20, 15, 0);
     peer_sample(&t, 0, 10, 15, 0);
@@ -527,11 +656,16 @@ static void refusals_go_on(void)
 {
     replay("01 00 03 01 40 00 00 03 01 0F 04 00 03 01 21 01 00 08 03 08 00 00 00 00 00 00"
            "00 03 02 3F 00 00 03 02 3F C1 00 03 02 3E 02 00 03 02 40 00 00 01 04 00 03 02 00 01",
-           "1 1\n2 2\n3 3\n4 4\n5 5\n6 5\n7 6\n8 1\n9 0\n10 0 FA\npins 0 0\n");
+           "1 1\n2 2\n3 14\n4 4\n5 5\n6 5\n7 6\n8 1\n9 0\n10 0 FA\npins 0 0\n");
     replay("01 00 08 03 F8 00 07 FF FF FF 80 00 03 02 02 07",
            "1 0\n2 0 0180F17FF1FF80\npins 0 0\n");
     replay("01 00 08 03 F7 FF 00 00 00 00 00 00 08 03 80 00 00 00 00 00 00 00 03 02 00 00",
            "1 4\n2 4\n3 5\npins 0 0\n");
+    replay("01 00 03 01 16 80 00 03 01 17 01 00 03 01 18 0C 00 03 01 11 C0 00 03 01 32 05"
+           "00 03 01 33 02 00 03 01 36 80 00 03 01 3A 01 00 03 01 21 89 00 03 02 16 03"
+           "00 03 01 18 08 00 03 01 21 88 00 03 02 18 01 00 03 02 21 01",
+           "1 11\n2 11\n3 11\n4 12\n5 13\n6 13\n7 13\n8 13\n9 14\n10 0 000000\n11 0\n12 0\n"
+           "13 0 08\n14 0 08\npins 0 0\n");
 }
 
 /* Logs of cycle starts that end around the size of a block; the last line but one tells. */
@@ -792,6 +926,7 @@ int main(int count, char **argument)
     p8_to_p10();
     watermark();
     register_table();
+    refusals_by_register();
     refusals_change_nothing();
     locks();
     fifo();

@@ -407,6 +407,71 @@ static void write_scene(struct log *l)
     look(l);
 }
 
+/* One of these bits, or 0 where there is none. */
+static int bit_among(struct log *l, int bits)
+{
+    int bit = 1 << below(l, 8);
+
+    while (bits != 0 && !(bits & bit))
+        bit = 1 << below(l, 8);
+    return bits & bit;
+}
+
+/* A byte at the edge between the bits that a register refuses and its others: one bit of either
+   side, two that are refused, one of each, or some of the others with or without a refused one. */
+static int byte_at_edge(struct log *l, int refused)
+{
+    int others = ~refused & 0xFF;
+    int bit = bit_among(l, refused);
+    int another = bit_among(l, refused & ~bit);
+    int other = bit_among(l, others);
+    int some_others = below(l, 256) & others;
+
+    switch (below(l, 7)) {
+    case 0:
+    case 1:
+        return bit;
+    case 2:
+        return bit | another;
+    case 3:
+        return bit | other;
+    case 4:
+        return bit | some_others;
+    case 5:
+        return other;
+    default:
+        return some_others;
+    }
+}
+
+/* Settings that the twin lacks, and their neighbours. A byte that was stored shows in the reads. */
+static void lack_scene(struct log *l)
+{
+    static const struct {
+        int address, refused;
+    } row[] = {{0x11, 0xE0}, {0x16, 0xF0}, {0x17, 0x0F}, {0x18, 0x07}, {0x21, 0x07}, {0x32, 0x03},
+               {0x33, 0x0B}, {0x36, 0xE7}, {0x38, 0xFF}, {0x39, 0xFF}, {0x3A, 0xFF}};
+    int turns = 3 + below(l, 6);
+
+    while (turns-- > 0) {
+        int chosen = below(l, sizeof row / sizeof *row);
+        int address = row[chosen].address;
+        int writes = 1 + below(l, 3);
+
+        while (writes-- > 0) {
+            int byte = byte_at_edge(l, row[chosen].refused);
+            int code = below(l, 16);
+
+            if (address == 0x21 && one_in(l, 2)) /* refuses codes, not bits */
+                byte = (byte & 0xF0) | code;
+            put_write(l, address, byte);
+            if (!one_in(l, 4))
+                put_read(l, address, 1);
+        }
+    }
+    look(l);
+}
+
 /* Writes any bytes to neighbouring addresses, then reads the whole map. */
 static void sweep_scene(struct log *l)
 {
@@ -523,6 +588,7 @@ static void put_point(struct log *l, struct setup *s, bool over)
 static void disturb_motion(struct log *l, const struct setup *s)
 {
     int range = PICK(l, 0x03, 0x05, 0x08, 0x0C, 0x04, 0xF5);
+    int detector = PICK(l, 0x10, 0x20, 0x40, 0x80);
 
     switch (below(l, 9)) {
     case 0:
@@ -544,7 +610,7 @@ static void disturb_motion(struct log *l, const struct setup *s)
         put_write(l, 0x0F, range);
         break;
     case 6:
-        put_write(l, 0x16, 0x40 | s->enable); /* refused */
+        put_write(l, 0x16, detector | s->enable); /* refused */
         break;
     case 7:
         put_outside_sample(l);
@@ -647,7 +713,7 @@ static void any_scene(struct log *l)
 {
     static void (*const scene[])(struct log *) = {
         fifo_scene,  fifo_scene,  lock_scene, burst_scene, corner_scene, write_scene, write_scene,
-        sweep_scene, range_scene, data_scene, set_pins,    motion_scene, motion_scene,
+        sweep_scene, range_scene, data_scene, set_pins,    motion_scene, motion_scene, lack_scene,
     };
 
     if (one_in(l, 16))

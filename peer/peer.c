@@ -217,12 +217,13 @@ static enum peer_answer refuse_latch(uint8_t byte)
 {
     unsigned code = byte & 7; /* bit 3 makes no difference */
 
-    return code == 0 || code == 7 ? PEER_DONE : PEER_NOT_MODELLED;
+    return code == 0 || code == 7 ? PEER_DONE : PEER_NO_LATCH_TIME;
 }
 
-static enum peer_answer refuse_bits(uint8_t byte, uint8_t not_modelled)
+/* Gives the number of the register where the byte has one of the bits that the twin lacks. */
+static enum peer_answer refuse_bits(uint8_t byte, uint8_t lacking, enum peer_answer number)
 {
-    return byte & not_modelled ? PEER_NOT_MODELLED : PEER_DONE;
+    return byte & lacking ? number : PEER_DONE;
 }
 
 /* The number with which a write is refused, or PEER_DONE. It looks at the byte before the mask. */
@@ -236,23 +237,23 @@ static enum peer_answer refuse_write(uint8_t address, uint8_t byte)
     case LATCH:
         return refuse_latch(byte);
     case 0x11:
-        return refuse_bits(byte, 0xE0);
+        return refuse_bits(byte, 0xE0, PEER_NO_POWER_MODE);
     case ENABLE_MOTION:
-        return refuse_bits(byte, 0xF0);
+        return refuse_bits(byte, 0xF0, PEER_NO_DETECTOR);
     case ENABLE_DATA:
-        return refuse_bits(byte, 0x0F);
+        return refuse_bits(byte, 0x0F, PEER_NO_DETECTOR);
     case 0x18:
-        return refuse_bits(byte, 0x07);
+        return refuse_bits(byte, 0x07, PEER_NO_DETECTOR);
     case 0x32:
-        return refuse_bits(byte, 0x03);
+        return refuse_bits(byte, 0x03, PEER_NO_TEST_OR_TRIM);
     case 0x33:
-        return refuse_bits(byte, 0x0B);
+        return refuse_bits(byte, 0x0B, PEER_NO_TEST_OR_TRIM);
     case 0x36:
-        return refuse_bits(byte, 0xE7);
+        return refuse_bits(byte, 0xE7, PEER_NO_TEST_OR_TRIM);
     case 0x38:
     case 0x39:
     case 0x3A:
-        return refuse_bits(byte, 0xFF);
+        return refuse_bits(byte, 0xFF, PEER_NO_TEST_OR_TRIM);
     default:
         return PEER_DONE;
     }

@@ -20,17 +20,23 @@ enum {
     PEER_LONGEST_READ = 192
 };
 
+/* 3 is not given any more: 11 to 14 stand in its place and tell by register what the twin lacks. 10
+   is for a writer of logs, which is not here. */
 enum peer_answer {
     PEER_DONE = 0,              /* done, or a write that the chip ignores */
     PEER_WRONG_ADDRESS = 1,     /* address above 0x3F */
     PEER_RESERVED_CODE = 2,     /* write of a code the sheet reserves */
-    PEER_NOT_MODELLED = 3,      /* write of a setting not modelled here */
     PEER_OUTSIDE_12_BITS = 4,   /* x, y or z outside -2048..2047 */
     PEER_WRONG_READ_LENGTH = 5, /* read length 0 or above 192 */
     PEER_READ_PASSES_3E = 6,    /* read starting below 0x3F that would pass 0x3E */
     PEER_WRONG_VERSION = 7,     /* log version byte not 1 */
     PEER_WRONG_RECORD = 8,      /* record length or kind wrong */
-    PEER_LOG_CUT = 9            /* log cut, or empty */
+    PEER_LOG_CUT = 9,           /* log cut, or empty */
+    PEER_NO_DETECTOR = 11,      /* a detector bit in 0x16 to 0x18 */
+    PEER_NO_POWER_MODE = 12,    /* a power mode in 0x11 */
+    PEER_NO_TEST_OR_TRIM = 13,  /* self-test, memory, calibration or offset in 0x32, 0x33, 0x36,
+                                   0x38 to 0x3A */
+    PEER_NO_LATCH_TIME = 14     /* a latch time in 0x21 */
 };
 
 enum peer_level { PEER_LOW, PEER_HIGH, PEER_RELEASED };

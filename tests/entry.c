@@ -58,7 +58,6 @@ static void refused_events(struct twin *twin) {
     HOLDS(twin_write(twin, 0x40, 0) == TWIN_NO_ADDRESS);
     HOLDS(twin_read(twin, 0x40, buffer, 0) == TWIN_NO_ADDRESS);
     HOLDS(twin_write(twin, 0x0F, 4) == TWIN_RESERVED_CODE);
-    HOLDS(twin_write(twin, 0x21, 1) == TWIN_NOT_MODELLED);
     HOLDS(twin_sample(twin, 2048, 0, 0, 0) == TWIN_OUT_OF_RANGE);
     HOLDS(twin_sample(twin, 0, -2049, 0, 0) == TWIN_OUT_OF_RANGE);
     HOLDS(twin_sample(twin, 0, 0, 65536, 0) == TWIN_OUT_OF_RANGE);
@@ -69,6 +68,28 @@ static void refused_events(struct twin *twin) {
     HOLDS(twin_read(twin, 0x00, buffer, SIZE_MAX) == TWIN_BAD_LENGTH);
     HOLDS(twin_read(twin, 0x3E, buffer, 2) == TWIN_PAST_END);
     HOLDS(same(&before, twin) && all(buffer, sizeof buffer, FILL));
+}
+
+/* a write and its answer; a refused one changes nothing */
+static void written(struct twin *twin, uint8_t address, int byte, uint8_t answer) {
+    struct twin before = *twin;
+    HOLDS(twin_write(twin, address, (uint8_t)byte) == answer);
+    HOLDS(answer == TWIN_DONE || same(&before, twin));
+}
+
+/* every byte to each register that has bits of which a 1 is something that the twin lacks; a latch time is a nibble of 0x21 */
+static void lacking(struct twin *twin) {
+    static const struct {
+        uint8_t address, bits, answer;
+    } lacks[] = {{0x11, 0xE0, TWIN_NO_POWER_MODE},   {0x16, 0xF0, TWIN_NO_DETECTOR},     {0x17, 0x0F, TWIN_NO_DETECTOR},
+                 {0x18, 0x07, TWIN_NO_DETECTOR},     {0x32, 0x03, TWIN_NO_TEST_OR_TRIM}, {0x33, 0x0B, TWIN_NO_TEST_OR_TRIM},
+                 {0x36, 0xE7, TWIN_NO_TEST_OR_TRIM}, {0x38, 0xFF, TWIN_NO_TEST_OR_TRIM}, {0x39, 0xFF, TWIN_NO_TEST_OR_TRIM},
+                 {0x3A, 0xFF, TWIN_NO_TEST_OR_TRIM}};
+    for (int byte = 0; byte < 256; byte++) {
+        for (size_t i = 0; i < sizeof lacks / sizeof lacks[0]; i++)
+            written(twin, lacks[i].address, byte, byte & lacks[i].bits ? lacks[i].answer : (uint8_t)TWIN_DONE);
+        written(twin, 0x21, byte, byte % 8 == 0 || byte % 8 == 7 ? TWIN_DONE : TWIN_NO_LATCH_TIME);
+    }
 }
 
 /* every function on a record that is no chip; nothing changes. NULL is also a record */
@@ -198,7 +219,7 @@ static void pins(struct twin *twin) {
 
 /* each answer has words of its own, and no other number has any */
 static void names(void) {
-    static const uint8_t answers[] = {0, 1, 2, 3, 4, 5, 6, 8, 253, 254, 255};
+    static const uint8_t answers[] = {0, 1, 2, 4, 5, 6, 8, 11, 12, 13, 14, 253, 254, 255};
     for (int number = 0; number < 256; number++) {
         bool is_answer = memchr(answers, number, sizeof answers) != NULL;
         HOLDS((strcmp(twin_answer_name((uint8_t)number), "not an answer") == 0) == !is_answer);
@@ -231,6 +252,7 @@ static void at_the_edge(uint8_t *page, uint8_t *buffers) {
     twin_power_up(twin);
     readout(twin, buffers + PAGE);
     refused_events(twin);
+    lacking(twin);
     unknown_kinds(twin);
     no_buffer(twin);
     HOLDS(all((uint8_t *)twin + twin_size(), TWIN_ROOM - twin_size(), 0));

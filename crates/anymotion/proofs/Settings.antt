@@ -14,7 +14,7 @@ use Rattle.laws.specs.Bits.{bit}
 use Rattle.laws.specs.Lists.{isIn}
 use Rattle.laws.proofs.Finite.{of-pick, alike, left, right}
 use Rattle.codes.specs.Latch.{latchOf, isModelled, isUnlatched}
-use Rattle.codes.specs.declared.Latch.the-variants.{Unlatched, Latched, NotModelled}
+use Rattle.codes.specs.declared.Latch.the-variants.{Unlatched, Latched, Timed}
 use Rattle.channels.specs.Codes.{inRange}
 use Rattle.slopes.specs.Point.{noAxis}
 use Rattle.table.specs.Rows.{rowAt, merged}
@@ -39,7 +39,7 @@ module _ (byte : ℕ) where
   unfolding latchOf
   latch-is = go (eqb (byte % 16) 0) (eqb (byte % 16) 8) (eqb (byte % 16) 7) (eqb (byte % 16) 15)
     where
-      go : (a b c d : Bool) → isUnlatched (pick a Unlatched (pick b Unlatched (pick c Latched (pick d Latched NotModelled)))) ≡ either a (either b false)
+      go : (a b c d : Bool) → isUnlatched (pick a Unlatched (pick b Unlatched (pick c Latched (pick d Latched Timed)))) ≡ either a (either b false)
       go true b c d = refl
       go false true c d = refl
       go false false true d = refl
@@ -55,7 +55,7 @@ module _ (byte : ℕ) where
       only k e h = rw e h
 
       go : (a : Bool) → eqb (byte % 16) 0 ≡ a → (b : Bool) → eqb (byte % 16) 8 ≡ b → (c : Bool) → eqb (byte % 16) 7 ≡ c → (d : Bool) → eqb (byte % 16) 15 ≡ d
-          → isModelled (pick a Unlatched (pick b Unlatched (pick c Latched (pick d Latched NotModelled)))) ≡ true → meansLatched byte ≡ not (meansNonLatched byte)
+          → isModelled (pick a Unlatched (pick b Unlatched (pick c Latched (pick d Latched Timed)))) ≡ true → meansLatched byte ≡ not (meansNonLatched byte)
       go true e b f c g d h m = only 0 (eqb-true _ 0 e) refl
       go false e true f c g d h m = only 8 (eqb-true _ 8 f) refl
       go false e false f true g d h m = only 7 (eqb-true _ 7 g) refl

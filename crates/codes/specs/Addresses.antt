@@ -5,6 +5,10 @@ use Prim.Native.Nat.{ℕ}
 abbrev pub rangeAt : ℕ
 rangeAt = 0x0F
 
+-- the power mode
+abbrev pub powerAt : ℕ
+powerAt = 0x11
+
 -- bit 6 is 1 where no lock is wanted
 abbrev pub shadowAt : ℕ
 shadowAt = 0x13
@@ -19,6 +23,10 @@ axesAt = 0x16
 
 abbrev pub enablesAt : ℕ
 enablesAt = 0x17
+
+-- the axes of slow motion and no motion
+abbrev pub slowAt : ℕ
+slowAt = 0x18
 
 -- the pins' active levels and drives
 abbrev pub driveAt : ℕ

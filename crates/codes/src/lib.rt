@@ -8,6 +8,9 @@ ghost use Rattle.codes.specs.Axes.{axesOf};
 // The measuring range.
 pub const RANGE_AT: usize = 0x0F;
 
+// The power mode.
+pub const POWER_AT: usize = 0x11;
+
 // Bit 6 is 1 where no lock is wanted.
 pub const SHADOW_AT: usize = 0x13;
 
@@ -18,6 +21,9 @@ pub const RESET_AT: usize = 0x14;
 pub const AXES_AT: usize = 0x16;
 
 pub const ENABLES_AT: usize = 0x17;
+
+// The axes of slow motion and no motion.
+pub const SLOW_AT: usize = 0x18;
 
 // The pins' active levels and drives.
 pub const DRIVE_AT: usize = 0x20;
@@ -53,11 +59,11 @@ pub enum Range {
     Reserved,
 }
 
-// What the low nibble of 0x21 means.
+// What the low nibble of 0x21 means. A latch time is not modelled.
 pub enum Latch {
     Unlatched,
     Latched,
-    NotModelled,
+    Timed,
 }
 
 // The mode bits of 0x3E. The reserved code is refused before it can be stored.
@@ -112,7 +118,7 @@ pub fn latch_of(byte: u8) -> Latch
         0b1000 => Latch::Unlatched,
         0b0111 => Latch::Latched,
         0b1111 => Latch::Latched,
-        _ => Latch::NotModelled,
+        _ => Latch::Timed,
     }
 }
 
@@ -122,7 +128,7 @@ pub fn is_modelled(latch: Latch) -> bool
     match latch {
         Latch::Unlatched => true,
         Latch::Latched => true,
-        Latch::NotModelled => false,
+        Latch::Timed => false,
     }
 }
 
@@ -132,7 +138,7 @@ pub fn is_unlatched(latch: Latch) -> bool
     match latch {
         Latch::Unlatched => true,
         Latch::Latched => false,
-        Latch::NotModelled => false,
+        Latch::Timed => false,
     }
 }
 

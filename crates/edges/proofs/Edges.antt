@@ -9,7 +9,7 @@ use Rattle.codes.specs.Latch.{latchOf}
 use Rattle.codes.specs.Mode.{modeOf}
 use Rattle.codes.specs.Axes.{axesOf}
 use Rattle.table.specs.Rows.{listed, reservedAddresses, lineOf, refusedBits, rowOf, rowAt, resetBytes}
-use Rattle.registers.specs.Refused.{reservedCode, notModelled, answerAt, readAnswer}
+use Rattle.registers.specs.Refused.{reservedCode, notModelled, lackAt, answerAt, readAnswer}
 use Rattle.registers.specs.Deeds.{deedsOf, judgement}
 use Rattle.fifo.specs.Flat.{flatPushed, flatRead, bytesRead}
 use Rattle.fifo.specs.Store.{pushedIn, readIn, bytesIn, countIn, noFrames}
@@ -32,5 +32,5 @@ use Rattle.events.specs.Run.{told}
 use Rattle.edges.specs.Edges.{rows}
 
 pub edges : map (λ row. told device.powerUp (map (λ s. s .event) row)) rows ≡ map (λ row. map (λ s. s .given) row) rows
-unfolding bit zeros firstOrZeros movedForward rangeOf latchOf modeOf axesOf listed reservedAddresses lineOf refusedBits rowOf rowAt resetBytes reservedCode notModelled answerAt readAnswer deedsOf judgement flatPushed flatRead bytesRead pushedIn readIn bytesIn countIn noFrames code byteAt afterRead slopesTo firstOver pointOf overRun calmRun afterOver afterCalm afterSample restarted detectorsSampled detectorsWritten statusesOf statusByte device.powerUp firstBytes shownByte byteFrom afterSingles singleBytes readOf written writeOf sampleAnswer afterAccepted sampleOf
+unfolding bit zeros firstOrZeros movedForward rangeOf latchOf modeOf axesOf listed reservedAddresses lineOf refusedBits rowOf rowAt resetBytes reservedCode notModelled lackAt answerAt readAnswer deedsOf judgement flatPushed flatRead bytesRead pushedIn readIn bytesIn countIn noFrames code byteAt afterRead slopesTo firstOver pointOf overRun calmRun afterOver afterCalm afterSample restarted detectorsSampled detectorsWritten statusesOf statusByte device.powerUp firstBytes shownByte byteFrom afterSingles singleBytes readOf written writeOf sampleAnswer afterAccepted sampleOf
 edges = refl

@@ -1,4 +1,4 @@
--- 01, "Both sides of each edge": the rows P1 to P10, as one table.
+-- 01, "Both sides of each edge": the rows P1 to P10, and those of the requests, as one table.
 use Prim.Native.Nat.{ℕ}
 use mathlib.Core.List.{List, [], _∷_, _++_}
 use lib.IntN.{ℤ, pos, negsuc}
@@ -20,6 +20,23 @@ x v = sample v (pos 0) (pos 0) 0
 
 abbrev samples : ℕ → List Step
 samples n = upFrom (λ k. x (pos k) ⇒ answer 0) 1 n
+
+-- writes to one address, what each is answered, and what is read there behind them; two lists of unlike length are no row: no device
+-- answers 0 to a read of no bytes
+infix 80 _at_give_leave_
+abbrev _at_give_leave_ : List ℕ → ℕ → List ℕ → ℕ → List Step
+[] at a give [] leave held = read a 1 ⇒ bytes (held ∷ []) ∷ []
+[] at a give (n ∷ ns) leave held = read a 0 ⇒ answer 0 ∷ []
+(b ∷ bs) at a give [] leave held = read a 0 ⇒ answer 0 ∷ []
+(b ∷ bs) at a give (n ∷ ns) leave held = write a b ⇒ answer n ∷ bs at a give ns leave held
+
+-- each bit alone, from bit 7 down to bit 0
+abbrev eachBit : List ℕ
+eachBit = 0x80 ∷ 0x40 ∷ 0x20 ∷ 0x10 ∷ 0x08 ∷ 0x04 ∷ 0x02 ∷ 0x01 ∷ []
+
+-- what the nibbles of 0x21 are answered, from 0000 up to 1111
+abbrev latchTimes : List ℕ
+latchTimes = 0 ∷ 14 ∷ 14 ∷ 14 ∷ 14 ∷ 14 ∷ 14 ∷ 0 ∷ 0 ∷ 14 ∷ 14 ∷ 14 ∷ 14 ∷ 14 ∷ 14 ∷ 0 ∷ []
 
 -- each row starts at a fresh device
 abbrev pub rows : List (List Step)
@@ -49,6 +66,26 @@ rows =
     x (pos 4) ⇒ answer 0 ∷ read 0x09 1 ⇒ bytes (0x00 ∷ []) ∷ x (pos 9) ⇒ answer 0 ∷ read 0x09 1 ⇒ bytes (0x04 ∷ []) ∷ read 0x0B 1 ⇒ bytes (0x01 ∷ []) ∷ []) ∷
     -- P9 "Afresh, x 0, -5: 0B is 09"
     (write 0x16 0x01 ⇒ answer 0 ∷ write 0x28 0x01 ⇒ answer 0 ∷ write 0x27 0x00 ⇒ answer 0 ∷ x (pos 0) ⇒ answer 0 ∷ x (negsuc 4) ⇒ answer 0 ∷ read 0x0B 1 ⇒ bytes (0x09 ∷ []) ∷ []) ∷
-    -- P10 "0x21=01 gives 3, 07 gives 0"
-    (write 0x21 0x01 ⇒ answer 3 ∷ write 0x21 0x07 ⇒ answer 0 ∷ []) ∷
+    -- P10 "0x21=01 gives 3, 07 gives 0", with Q-1: "P10 in 01 gives 14 for 3"
+    (write 0x21 0x01 ⇒ answer 14 ∷ write 0x21 0x07 ⇒ answer 0 ∷ []) ∷
+    -- Q-1 "11 a detector bit in 0x16 to 0x18"
+    eachBit at 0x16 give (11 ∷ 11 ∷ 11 ∷ 11 ∷ 0 ∷ 0 ∷ 0 ∷ 0 ∷ []) leave 0x01 ∷
+    eachBit at 0x17 give (0 ∷ 0 ∷ 0 ∷ 0 ∷ 11 ∷ 11 ∷ 11 ∷ 11 ∷ []) leave 0x10 ∷
+    eachBit at 0x18 give (0 ∷ 0 ∷ 0 ∷ 0 ∷ 0 ∷ 11 ∷ 11 ∷ 11 ∷ []) leave 0x08 ∷
+    -- Q-1 "12 a power mode in 0x11", also two modes or three at once
+    eachBit at 0x11 give (12 ∷ 12 ∷ 12 ∷ 0 ∷ 0 ∷ 0 ∷ 0 ∷ 0 ∷ []) leave 0x00 ∷
+    (0x1E ∷ 0x60 ∷ 0xA0 ∷ 0xC0 ∷ 0xE0 ∷ 0xFE ∷ []) at 0x11 give (0 ∷ 12 ∷ 12 ∷ 12 ∷ 12 ∷ 12 ∷ []) leave 0x1E ∷
+    -- Q-1 "13 self-test, memory, calibration or offset in 0x32, 0x33, 0x36, 0x38 to 0x3A"; 0x37 was never refused
+    eachBit at 0x32 give (0 ∷ 0 ∷ 0 ∷ 0 ∷ 0 ∷ 0 ∷ 13 ∷ 13 ∷ []) leave 0x04 ∷
+    eachBit at 0x33 give (0 ∷ 0 ∷ 0 ∷ 0 ∷ 13 ∷ 0 ∷ 13 ∷ 13 ∷ []) leave 0xF4 ∷
+    eachBit at 0x36 give (13 ∷ 13 ∷ 13 ∷ 0 ∷ 0 ∷ 13 ∷ 13 ∷ 13 ∷ []) leave 0x10 ∷
+    eachBit at 0x37 give (0 ∷ 0 ∷ 0 ∷ 0 ∷ 0 ∷ 0 ∷ 0 ∷ 0 ∷ []) leave 0x01 ∷
+    eachBit at 0x38 give (13 ∷ 13 ∷ 13 ∷ 13 ∷ 13 ∷ 13 ∷ 13 ∷ 13 ∷ []) leave 0x00 ∷
+    eachBit at 0x39 give (13 ∷ 13 ∷ 13 ∷ 13 ∷ 13 ∷ 13 ∷ 13 ∷ 13 ∷ []) leave 0x00 ∷
+    eachBit at 0x3A give (13 ∷ 13 ∷ 13 ∷ 13 ∷ 13 ∷ 13 ∷ 13 ∷ 13 ∷ []) leave 0x00 ∷
+    (0x00 ∷ []) at 0x38 give (0 ∷ []) leave 0x00 ∷ (0x00 ∷ []) at 0x39 give (0 ∷ []) leave 0x00 ∷ (0x00 ∷ []) at 0x3A give (0 ∷ []) leave 0x00 ∷
+    -- Q-1 "14 a latch time in 0x21": every nibble, and with the command of bit 7
+    upFrom (λ nibble. nibble) 0x00 16 at 0x21 give latchTimes leave 0x0F ∷
+    upFrom (λ nibble. nibble) 0x80 16 at 0x21 give latchTimes leave 0x0F ∷
+    eachBit at 0x21 give (0 ∷ 0 ∷ 0 ∷ 0 ∷ 0 ∷ 14 ∷ 14 ∷ 14 ∷ []) leave 0x08 ∷
     []

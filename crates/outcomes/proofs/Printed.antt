@@ -9,7 +9,7 @@ use Rattle.codes.specs.Latch.{latchOf}
 use Rattle.codes.specs.Mode.{modeOf}
 use Rattle.codes.specs.Axes.{axesOf}
 use Rattle.table.specs.Rows.{listed, reservedAddresses, lineOf, refusedBits, rowOf, rowAt, resetBytes}
-use Rattle.registers.specs.Refused.{reservedCode, notModelled, answerAt, readAnswer}
+use Rattle.registers.specs.Refused.{reservedCode, notModelled, lackAt, answerAt, readAnswer}
 use Rattle.registers.specs.Deeds.{deedsOf, judgement}
 use Rattle.fifo.specs.Flat.{flatPushed, flatRead, bytesRead}
 use Rattle.fifo.specs.Store.{pushedIn, readIn, bytesIn, countIn, noFrames}
@@ -41,5 +41,5 @@ use Rattle.playback.specs.Replay.{start, printed}
 use Rattle.outcomes.specs.PrintedCases.{printedCases}
 
 pub printed-cases : map (λ c. printed (c .log)) printedCases ≡ map (λ c. c .text) printedCases
-unfolding bit zeros firstOrZeros movedForward rangeOf latchOf modeOf axesOf listed reservedAddresses lineOf refusedBits rowOf rowAt resetBytes reservedCode notModelled answerAt readAnswer deedsOf judgement flatPushed flatRead bytesRead pushedIn readIn bytesIn countIn noFrames code byteAt afterRead slopesTo firstOver pointOf overRun calmRun afterOver afterCalm afterSample restarted detectorsSampled detectorsWritten statusesOf statusByte device.powerUp firstBytes shownByte byteFrom afterSingles singleBytes readOf written writeOf sampleAnswer afterAccepted sampleOf cycleOf isActive pinLevel pinsOf lengthOfKind entryOf foundIn readHead readVersion lastDigits decimal line start eventOf linesOf printedFrom
+unfolding bit zeros firstOrZeros movedForward rangeOf latchOf modeOf axesOf listed reservedAddresses lineOf refusedBits rowOf rowAt resetBytes reservedCode notModelled lackAt answerAt readAnswer deedsOf judgement flatPushed flatRead bytesRead pushedIn readIn bytesIn countIn noFrames code byteAt afterRead slopesTo firstOver pointOf overRun calmRun afterOver afterCalm afterSample restarted detectorsSampled detectorsWritten statusesOf statusByte device.powerUp firstBytes shownByte byteFrom afterSingles singleBytes readOf written writeOf sampleAnswer afterAccepted sampleOf cycleOf isActive pinLevel pinsOf lengthOfKind entryOf foundIn readHead readVersion lastDigits decimal line start eventOf linesOf printedFrom
 printed-cases = refl

@@ -2,19 +2,20 @@
 -- they were.
 -- Assumes nothing.
 use Prim.Native.Nat.{ℕ, _+_, _<_}
-use mathlib.Core.Bool.{true, false, not}
+use mathlib.Core.Bool.{Bool, true, false, not}
 use mathlib.Core.List.{List, [], _∷_}
 use mathlib.Core.Logic.{_↔_, _≢_}
-use mathlib.Core.Path.{_≡_, refl, _∙_}
+use mathlib.Core.Path.{_≡_, refl, sym, ap, _∙_}
 use native.Mathlib.Omega.{arith}
 use borrow.Author.Tests.{ne-eqb}
 use lib.Dec.{eqb, ltb}
 use lib.IntN.{ℤ, pos}
 use lib.ListN.{length}
-use Rattle.laws.specs.Choice.{both, either}
+use Rattle.laws.specs.Choice.{pick, both, either}
 use Rattle.laws.specs.Lists.{isIn}
-use Rattle.laws.specs.Refusals.{due}
-use Rattle.laws.proofs.Refusals.{exact, ways, first-in}
+use Rattle.laws.specs.Refusals.{row, due}
+use Rattle.laws.proofs.Refusals.{apart, exact, ways, first-in}
+use Rattle.codes.specs.Addresses.{framesAt}
 use Rattle.codes.specs.Latch.{latchOf}
 use Rattle.codes.specs.Mode.{modeOf}
 use Rattle.codes.specs.Range.{rangeOf}
@@ -22,9 +23,10 @@ use Rattle.channels.specs.Codes.{inRange}
 use Rattle.table.specs.Rows.{rowAt, rowOf, lineOf, listed, refusedBits, reservedAddresses}
 use Rattle.registers.specs.Answers.{number, accepted}
 use Rattle.registers.specs.Deeds.{judgement}
-use Rattle.registers.specs.Refused.{reservedCode, notModelled, writeRows, readRows, answerAt, writeAnswer, readAnswer}
+use Rattle.registers.specs.Refused.{reservedCode, notModelled, lackAt, writeRows, readRows, answerAt, writeAnswer, readAnswer}
 use Rattle.registers.specs.declared.Answer.{Answer}
-use Rattle.registers.specs.declared.Answer.the-variants.{Done, NoAddress, ReservedCode, NotModelled, OutOfRange, BadLength, PastEnd}
+use Rattle.registers.specs.declared.Answer.the-variants.{Done, NoAddress, ReservedCode}
+use Rattle.registers.proofs.Answers.{zero-accepted, lack-any}
 use Rattle.device.specs.Write.{writeOf}
 use Rattle.device.specs.Read.{readOf, bufferAfter}
 use Rattle.device.specs.Sample.{sampleRows, sampleAnswer, sampleOf, cycleOf}
@@ -38,13 +40,17 @@ use Rattle.benchlog.specs.Writer.{roomFor, writtenAs, written, placedAs, outAft
 use Rattle.benchlog.specs.declared.Room.{Room}
 use Rattle.benchlog.specs.declared.Room.the-variants as room
 use Rattle.benchlog.proofs.Exactly.{read-answers, version-answers, write-answers}
-use Rattle.outcomes.specs.Numbers.{AboveLast, ReservedWrite, UnmodelledWrite, SomeOutside, WrongReadLength, Passing, answersTo, NothingElse}
-use Rattle.outcomes.proofs.Words.{Means, when, told, isnt, last, less, equal, and, or, reserved-is, unmodelled-is, outside}
+use Rattle.outcomes.specs.Numbers.{AboveLast, ReservedWrite, DetectorWrite, PowerModeWrite, TestOrTrimWrite, LatchTimeWrite, LackingWrite, SomeOutside, WrongReadLength, Passing, answersTo, NothingElse}
+use Rattle.outcomes.proofs.Words.{Means, no, when, told, isnt, likewise, last, less, equal, and, or, reserved-is, last-row, some-number, detector-is, power-mode-is, test-or-trim-is, latch-time-is, outside}
 
 -- ---- exactly when the rows say
+-- the rows of a write have different numbers, and none is 0, whichever is the register's
+rows-apart : (p q t : Bool) (a : ℕ) → apart number (row NoAddress p ∷ row ReservedCode q ∷ row (lackAt a) t ∷ []) ≡ true
+rows-apart p q t = lack-any (λ x. apart number (row NoAddress p ∷ row ReservedCode q ∷ row x t ∷ []) ≡ true) refl refl refl refl
+
 pub write-exactly : (d : Device) (a byte n : ℕ) → eqb n (number (writeOf d a byte .answer)) ≡ due number (writeRows (d .regs) (rowAt a) a byte) n
 unfolding writeOf judgement answerAt
-write-exactly d a byte n = exact number Done refl (writeRows (d .regs) (rowAt a) a byte) n refl
+write-exactly d a byte n = exact number Done refl (writeRows (d .regs) (rowAt a) a byte) n (rows-apart (ltb framesAt a) (reservedCode (d .regs) a byte) (notModelled (d .regs) (rowAt a) a byte) a)
 
 pub read-exactly : (d : Device) (a count n : ℕ) → eqb n (number (readOf d a count .answer)) ≡ due number (readRows a count) n
 unfolding readOf readAnswer
@@ -68,7 +74,7 @@ read-when d a count n = ways (read-exactly d a count n)
 pub sample-when : (d : Device) (x y z : ℤ) (t n : ℕ) → (number (sampleOf d x y z t .answer) ≡ n) ↔ (due number (sampleRows x y z) n ≡ true)
 sample-when d x y z t n = ways (sample-exactly d x y z t n)
 
--- ---- the rows in 01's words. "A write tests 1, 2, 3"
+-- ---- the rows in 01's words, and Q-1's. "A write tests 1, 2, 3", and 11 to 14 "stand in 3's place"
 pub write-1 : (d : Device) (a byte : ℕ) → (number (writeOf d a byte .answer) ≡ 1) ↔ AboveLast a
 write-1 d a byte = when (write-exactly d a byte 1) (less 0x3F a)
 
@@ -79,17 +85,53 @@ module _ (d : Device) (a byte : ℕ) (fits : byte < 256) where
   is-reserved : ¬ AboveLast a → Means (reservedCode (d .regs) a byte) (ReservedWrite a byte)
   is-reserved h = told (reserved-is (d .regs) a byte (within h) fits)
 
-  is-unmodelled : ¬ AboveLast a → Means (notModelled (d .regs) (rowAt a) a byte) (UnmodelledWrite a byte)
-  is-unmodelled h = told (unmodelled-is (d .regs) a byte (within h) fits)
+  abbrev lacking : Bool
+  lacking = notModelled (d .regs) (rowAt a) a byte
 
-  pub write-0 : (number (writeOf d a byte .answer) ≡ 0) ↔ (¬ AboveLast a × (¬ ReservedWrite a byte × ¬ UnmodelledWrite a byte))
-  write-0 = when (write-exactly d a byte 0) (and (isnt (less 0x3F a)) (λ h. and (isnt (is-reserved h)) (λ _. last (isnt (is-unmodelled h)))))
+  -- whether what is lacking has the number n
+  abbrev numbered : ℕ → Bool
+  numbered n = eqb n (number (lackAt a))
+
+  is-detector : ¬ AboveLast a → Means (both (numbered 11) lacking) (DetectorWrite a byte)
+  is-detector h = told (detector-is (d .regs) a byte (within h) fits)
+
+  is-power-mode : ¬ AboveLast a → Means (both (numbered 12) lacking) (PowerModeWrite a byte)
+  is-power-mode h = told (power-mode-is (d .regs) a byte (within h) fits)
+
+  is-test-or-trim : ¬ AboveLast a → Means (both (numbered 13) lacking) (TestOrTrimWrite a byte)
+  is-test-or-trim h = told (test-or-trim-is (d .regs) a byte (within h) fits)
+
+  is-latch-time : ¬ AboveLast a → Means (both (numbered 14) lacking) (LatchTimeWrite a byte)
+  is-latch-time h = told (latch-time-is (d .regs) a byte (within h) fits)
+
+  is-lacking : ¬ AboveLast a → Means lacking (LackingWrite a byte)
+  is-lacking h = likewise (some-number a lacking) (or (is-detector h) (or (is-power-mode h) (or (is-test-or-trim h) (is-latch-time h))))
+
+  -- in 3's place
+  third : (n : ℕ) {P : Type 0} → (¬ AboveLast a → Means (both (numbered n) lacking) P) → ¬ AboveLast a
+      → Means (both (not (reservedCode (d .regs) a byte)) (pick (numbered n) lacking (both (not lacking) false))) (¬ ReservedWrite a byte × P)
+  third n w h = and (isnt (is-reserved h)) (λ _. likewise (last-row (numbered n) lacking) (w h))
+
+  zero-free : numbered 0 ≡ false
+  zero-free = lack-any (λ x. eqb 0 (number x) ≡ false) refl refl refl refl a
+
+  pub write-0 : (number (writeOf d a byte .answer) ≡ 0) ↔ (¬ AboveLast a × (¬ ReservedWrite a byte × ¬ LackingWrite a byte))
+  write-0 = when (write-exactly d a byte 0) (and (isnt (less 0x3F a)) (λ h. and (isnt (is-reserved h)) (λ _. rw zero-free (last (isnt (is-lacking h))))))
 
   pub write-2 : (number (writeOf d a byte .answer) ≡ 2) ↔ (¬ AboveLast a × ReservedWrite a byte)
   write-2 = when (write-exactly d a byte 2) (and (isnt (less 0x3F a)) is-reserved)
 
-  pub write-3 : (number (writeOf d a byte .answer) ≡ 3) ↔ (¬ AboveLast a × (¬ ReservedWrite a byte × UnmodelledWrite a byte))
-  write-3 = when (write-exactly d a byte 3) (and (isnt (less 0x3F a)) (λ h. and (isnt (is-reserved h)) (λ _. is-unmodelled h)))
+  pub write-11 : (number (writeOf d a byte .answer) ≡ 11) ↔ (¬ AboveLast a × (¬ ReservedWrite a byte × DetectorWrite a byte))
+  write-11 = when (write-exactly d a byte 11) (and (isnt (less 0x3F a)) (third 11 is-detector))
+
+  pub write-12 : (number (writeOf d a byte .answer) ≡ 12) ↔ (¬ AboveLast a × (¬ ReservedWrite a byte × PowerModeWrite a byte))
+  write-12 = when (write-exactly d a byte 12) (and (isnt (less 0x3F a)) (third 12 is-power-mode))
+
+  pub write-13 : (number (writeOf d a byte .answer) ≡ 13) ↔ (¬ AboveLast a × (¬ ReservedWrite a byte × TestOrTrimWrite a byte))
+  write-13 = when (write-exactly d a byte 13) (and (isnt (less 0x3F a)) (third 13 is-test-or-trim))
+
+  pub write-14 : (number (writeOf d a byte .answer) ≡ 14) ↔ (¬ AboveLast a × (¬ ReservedWrite a byte × LatchTimeWrite a byte))
+  write-14 = when (write-exactly d a byte 14) (and (isnt (less 0x3F a)) (third 14 is-latch-time))
 
 -- "a read tests 1, 5, 6"
 module _ (d : Device) (a n : ℕ) where
@@ -123,15 +165,6 @@ module _ (d : Device) (x y z : ℤ) (t : ℕ) where
   sample-4 = when (sample-exactly d x y z t 4) is-outside
 
 -- ---- a refused event leaves device and lent buffer as they were, and a refused writer the log
-zero-accepted : (x : Answer) → accepted x ≡ eqb (number x) 0
-zero-accepted Done = refl
-zero-accepted NoAddress = refl
-zero-accepted ReservedCode = refl
-zero-accepted NotModelled = refl
-zero-accepted OutOfRange = refl
-zero-accepted BadLength = refl
-zero-accepted PastEnd = refl
-
 not-accepted : (x : Answer) → number x ≢ 0 → accepted x ≡ false
 not-accepted x h = zero-accepted x ∙ ne-eqb (number x) 0 h
 
@@ -165,11 +198,13 @@ event-unchanged d (read a n) h = let off = not-accepted (readAnswer a n) h in (r
 event-unchanged d (sample x y z t) h = (sample-unchanged d x y z t h, refl)
 event-unchanged d cycle h = absurd (h (cycle-done d))
 
--- ---- nothing else is answered: 0 to 10, each where 01 has it
+-- ---- nothing else is answered: 0 to 14 but 3, each where 01 and Q-1 have it
 event-answers : (d : Device) (e : Event) → isIn (answersTo e) (gives d e .number) ≡ true
 unfolding writeOf judgement answerAt readOf readAnswer sampleOf sampleAnswer cycleOf
 event-answers d powerUp = refl
-event-answers d (write a byte) = first-in number (0 ∷ 1 ∷ 2 ∷ 3 ∷ []) Done refl (writeRows (d .regs) (rowAt a) a byte) refl
+event-answers d (write a byte) =
+    let lack : isIn (answersTo (write a byte)) (number (lackAt a)) ≡ true = lack-any (λ x. isIn (answersTo (write a byte)) (number x) ≡ true) refl refl refl refl a in
+    first-in number (answersTo (write a byte)) Done refl (writeRows (d .regs) (rowAt a) a byte) (rw lack)
 event-answers d (read a n) = first-in number (0 ∷ 1 ∷ 5 ∷ 6 ∷ []) Done refl (readRows a n) refl
 event-answers d (sample x y z t) = first-in number (0 ∷ 4 ∷ []) Done refl (sampleRows x y z) refl
 event-answers d cycle = refl
@@ -177,13 +212,25 @@ event-answers d cycle = refl
 pub nothing-else : NothingElse
 nothing-else = record { event = event-answers; version = version-answers; entry = read-answers; room = write-answers }
 
--- each of 0 to 10 is given somewhere, whatever the device
+-- Q-1: "3 is never given again", by no device and to no event
+pub never-3 : (d : Device) (e : Event) → gives d e .number ≢ 3
+never-3 d e three = no (sym (without e) ∙ ap (isIn (answersTo e)) (sym three) ∙ event-answers d e)
+  where
+    without : (e : Event) → isIn (answersTo e) 3 ≡ false
+    without powerUp = refl
+    without (write a byte) = refl
+    without (read a n) = refl
+    without (sample x y z temperature) = refl
+    without cycle = refl
+
+-- each of the others is given somewhere, whatever the device
 pub each-given : (d : Device)
     → number (writeOf d 0x0F 0x05 .answer) ∷ number (writeOf d 0x40 0x00 .answer) ∷ number (writeOf d 0x0F 0x04 .answer) ∷
-    number (writeOf d 0x21 0x01 .answer) ∷ number (sampleOf d (pos 2048) (pos 0) (pos 0) 0 .answer) ∷
+    number (sampleOf d (pos 2048) (pos 0) (pos 0) 0 .answer) ∷
     number (readOf d 0x3F 193 .answer) ∷ number (readOf d 0x3E 2 .answer) ∷
     beginsNumber (readVersion (2 ∷ []) .begins) ∷ foundNumber (readAt (0 ∷ 9 ∷ []) 0 .found) ∷ beginsNumber (readVersion [] .begins) ∷
-    roomNumber (written [] 0 (1 ∷ []) .room) ∷ []
-    ≡ 0 ∷ 1 ∷ 2 ∷ 3 ∷ 4 ∷ 5 ∷ 6 ∷ 7 ∷ 8 ∷ 9 ∷ 10 ∷ []
-unfolding writeOf judgement answerAt reservedCode rangeOf modeOf notModelled rowAt rowOf lineOf listed refusedBits reservedAddresses latchOf readOf readAnswer sampleOf sampleAnswer readVersion readHead foundIn roomFor
+    roomNumber (written [] 0 (1 ∷ []) .room) ∷
+    number (writeOf d 0x18 0x04 .answer) ∷ number (writeOf d 0x11 0x20 .answer) ∷ number (writeOf d 0x38 0x01 .answer) ∷ number (writeOf d 0x21 0x01 .answer) ∷ []
+    ≡ 0 ∷ 1 ∷ 2 ∷ 4 ∷ 5 ∷ 6 ∷ 7 ∷ 8 ∷ 9 ∷ 10 ∷ 11 ∷ 12 ∷ 13 ∷ 14 ∷ []
+unfolding writeOf judgement answerAt reservedCode rangeOf modeOf notModelled lackAt rowAt rowOf lineOf listed refusedBits reservedAddresses latchOf readOf readAnswer sampleOf sampleAnswer readVersion readHead foundIn roomFor
 each-given d = refl

@@ -1,4 +1,4 @@
--- 01, "Numbers given back": the tests of the device's numbers in its words, and which numbers each event is answered with. No
+-- 01, "Numbers given back", and Q-1: the tests of the device's numbers in their words, and which numbers each event is answered with. No
 -- contract cites these; proofs/Refusals holds them against the definitions that the contracts cite.
 use Prim.Native.Nat.{ℕ, _+_, _/_, _%_, _<_}
 use mathlib.Core.Bool.{Bool, true, false, not}
@@ -38,24 +38,45 @@ abbrev pub oneIn : List ℕ → ℕ → Bool
 oneIn [] b = false
 oneIn (p ∷ ps) b = either (bit p b) (oneIn ps b)
 
--- 3, "write of a setting not modelled here"
-unfoldable pub isUnmodelledWrite : ℕ → ℕ → Bool
-isUnmodelledWrite a b =
-    -- "21: low nibble 0000 and 1000 non-latched, 0111 and 1111 latched; others are refused 3"
-    either (both (eqb a 0x21) (not (isIn (0b0000 ∷ 0b1000 ∷ 0b0111 ∷ 0b1111 ∷ []) (b % 16))))
-    -- "a 1 in 0x11 bits 7:5, 0x16 bits 7:4, 0x17 bits 3:0, 0x18 bits 2:0, 0x32 bits 1:0, 0x33 bits 3, 1, 0, 0x36 bits 7:5 or 2:0"
-    (either (both (eqb a 0x11) (oneIn (7 ∷ 6 ∷ 5 ∷ []) b))
-    (either (both (eqb a 0x16) (oneIn (7 ∷ 6 ∷ 5 ∷ 4 ∷ []) b))
+-- 11, "a detector bit in 0x16 to 0x18": "a 1 in .. 0x16 bits 7:4, 0x17 bits 3:0, 0x18 bits 2:0"
+unfoldable pub isDetectorWrite : ℕ → ℕ → Bool
+isDetectorWrite a b =
+    either (both (eqb a 0x16) (oneIn (7 ∷ 6 ∷ 5 ∷ 4 ∷ []) b))
     (either (both (eqb a 0x17) (oneIn (3 ∷ 2 ∷ 1 ∷ 0 ∷ []) b))
-    (either (both (eqb a 0x18) (oneIn (2 ∷ 1 ∷ 0 ∷ []) b))
-    (either (both (eqb a 0x32) (oneIn (1 ∷ 0 ∷ []) b))
+    (both (eqb a 0x18) (oneIn (2 ∷ 1 ∷ 0 ∷ []) b)))
+
+abbrev pub DetectorWrite : ℕ → ℕ → Type 0
+DetectorWrite a b = isDetectorWrite a b ≡ true
+
+-- 12, "a power mode in 0x11": "a 1 in 0x11 bits 7:5"
+unfoldable pub isPowerModeWrite : ℕ → ℕ → Bool
+isPowerModeWrite a b = both (eqb a 0x11) (oneIn (7 ∷ 6 ∷ 5 ∷ []) b)
+
+abbrev pub PowerModeWrite : ℕ → ℕ → Type 0
+PowerModeWrite a b = isPowerModeWrite a b ≡ true
+
+-- 13, "self-test, memory, calibration or offset in 0x32, 0x33, 0x36, 0x38 to 0x3A": "a 1 in .. 0x32 bits 1:0, 0x33 bits 3, 1, 0, 0x36
+-- bits 7:5 or 2:0; anything but 0 to 0x38 to 0x3A"
+unfoldable pub isTestOrTrimWrite : ℕ → ℕ → Bool
+isTestOrTrimWrite a b =
+    either (both (eqb a 0x32) (oneIn (1 ∷ 0 ∷ []) b))
     (either (both (eqb a 0x33) (oneIn (3 ∷ 1 ∷ 0 ∷ []) b))
     (either (both (eqb a 0x36) (oneIn (7 ∷ 6 ∷ 5 ∷ 2 ∷ 1 ∷ 0 ∷ []) b))
-    -- "anything but 0 to 0x38 to 0x3A"
-    (both (isIn (0x38 ∷ 0x39 ∷ 0x3A ∷ []) a) (not (eqb b 0))))))))))
+    (both (isIn (0x38 ∷ 0x39 ∷ 0x3A ∷ []) a) (not (eqb b 0)))))
 
-abbrev pub UnmodelledWrite : ℕ → ℕ → Type 0
-UnmodelledWrite a b = isUnmodelledWrite a b ≡ true
+abbrev pub TestOrTrimWrite : ℕ → ℕ → Type 0
+TestOrTrimWrite a b = isTestOrTrimWrite a b ≡ true
+
+-- 14, "a latch time in 0x21": "low nibble 0000 and 1000 non-latched, 0111 and 1111 latched"; the others are the latch times
+unfoldable pub isLatchTimeWrite : ℕ → ℕ → Bool
+isLatchTimeWrite a b = both (eqb a 0x21) (not (isIn (0b0000 ∷ 0b1000 ∷ 0b0111 ∷ 0b1111 ∷ []) (b % 16)))
+
+abbrev pub LatchTimeWrite : ℕ → ℕ → Type 0
+LatchTimeWrite a b = isLatchTimeWrite a b ≡ true
+
+-- "which kind of thing the twin lacks": one of the four
+abbrev pub LackingWrite : ℕ → ℕ → Type 0
+LackingWrite a b = DetectorWrite a b ⊎ (PowerModeWrite a b ⊎ (TestOrTrimWrite a b ⊎ LatchTimeWrite a b))
 
 -- 4, "x, y or z outside -2048..2047"
 abbrev pub Outside : ℤ → Type 0
@@ -73,10 +94,10 @@ abbrev pub Passing : ℕ → ℕ → Type 0
 Passing a n = (a < 0x3F) × (0x3F < a + n)
 
 -- ---- the numbers that an event, a reader or a writer is answered with
--- "A write tests 1, 2, 3; a read tests 1, 5, 6"; 4 is a sample's
+-- "A write tests 1, 2, 3; a read tests 1, 5, 6"; 4 is a sample's. In 3's place 11 to 14 stand: "3 is never given again"
 abbrev pub answersTo : Event → List ℕ
 answersTo powerUp = 0 ∷ []
-answersTo (write a byte) = 0 ∷ 1 ∷ 2 ∷ 3 ∷ []
+answersTo (write a byte) = 0 ∷ 1 ∷ 2 ∷ 11 ∷ 12 ∷ 13 ∷ 14 ∷ []
 answersTo (read a n) = 0 ∷ 1 ∷ 5 ∷ 6 ∷ []
 answersTo (sample x y z temperature) = 0 ∷ 4 ∷ []
 answersTo cycle = 0 ∷ []

@@ -1,17 +1,20 @@
 // The registers of 01: the answers, which writes and reads are refused, and what a write does.
 ghost use mathlib.Core.Path.{_≡_};
-ghost use Rattle.registers.specs.Answers.{number, accepted};
-ghost use Rattle.registers.specs.Refused.{reservedCode, notModelled, answerAt, readAnswer};
+ghost use Rattle.registers.specs.Answers.{number, place, accepted};
+ghost use Rattle.registers.specs.Refused.{reservedCode, notModelled, lackAt, answerAt, readAnswer};
 ghost use Rattle.registers.specs.Deeds.{isReset, restarting, deedsOf, deedsWhen, judgementAt, judgement};
 ghost use Rattle.laws.specs.Lists.{isIn};
 use codes::AXES_AT;
 use codes::CONTROL_AT;
+use codes::ENABLES_AT;
 use codes::FRAMES_AT;
 use codes::LATCH_AT;
 use codes::POINTS_AT;
+use codes::POWER_AT;
 use codes::RANGE_AT;
 use codes::RESET_AT;
 use codes::SHADOW_AT;
+use codes::SLOW_AT;
 use codes::THRESHOLD_AT;
 use codes::is_modelled;
 use codes::is_reserved_mode;
@@ -31,15 +34,19 @@ pub const LONGEST_READ: usize = 192;
 // The byte that at 0x14 is a soft reset.
 pub const SOFT_RESET: u8 = 0xB6;
 
-// What an event is answered; `number_of` gives 01's number.
+// What an event is answered; `number_of` gives its number. The last four name what the twin lacks; the third of them is self-test, memory,
+// calibration or offset.
 pub enum Answer {
     Done,
     NoAddress,
     ReservedCode,
-    NotModelled,
     OutOfRange,
     BadLength,
     PastEnd,
+    NoDetector,
+    NoPowerMode,
+    NoTestOrTrim,
+    NoLatchTime,
 }
 
 // What a write does: its byte is stored; the FIFO is emptied and its overrun cleared; the locks are released; the previous sample is
@@ -70,18 +77,37 @@ pub struct Judged {
     pub stored: u8,
 }
 
-pub fn number_of(answer: Answer) -> u8
-    ensures { λ r. ⌜ r ≡ number answer ⌝ }
+// Which of the answers it is, in the order of their numbers.
+fn place_of(answer: Answer) -> u8
+    ensures { λ r. ⌜ r ≡ place answer ⌝ }
 {
     match answer {
         Answer::Done => 0,
         Answer::NoAddress => 1,
         Answer::ReservedCode => 2,
-        Answer::NotModelled => 3,
-        Answer::OutOfRange => 4,
-        Answer::BadLength => 5,
-        Answer::PastEnd => 6,
+        Answer::OutOfRange => 3,
+        Answer::BadLength => 4,
+        Answer::PastEnd => 5,
+        Answer::NoDetector => 6,
+        Answer::NoPowerMode => 7,
+        Answer::NoTestOrTrim => 8,
+        Answer::NoLatchTime => 9,
     }
+}
+
+// The number: 0 to 2, 4 to 6 and 11 to 14. A match that gave these themselves would be compiled to a table, and the entry for C would
+// then copy the device once more at each event.
+pub fn number_of(answer: Answer) -> u8
+    ensures { λ r. ⌜ r ≡ number answer ⌝ }
+{
+    let place = place_of(answer);
+    if place < 3 {
+        return place;
+    }
+    if place < 6 {
+        return place + 1;
+    }
+    place + 5
 }
 
 pub fn is_accepted(answer: Answer) -> bool
@@ -91,10 +117,13 @@ pub fn is_accepted(answer: Answer) -> bool
         Answer::Done => true,
         Answer::NoAddress => false,
         Answer::ReservedCode => false,
-        Answer::NotModelled => false,
         Answer::OutOfRange => false,
         Answer::BadLength => false,
         Answer::PastEnd => false,
+        Answer::NoDetector => false,
+        Answer::NoPowerMode => false,
+        Answer::NoTestOrTrim => false,
+        Answer::NoLatchTime => false,
     }
 }
 
@@ -120,6 +149,21 @@ fn is_not_modelled(regs: &[u8; 64], row: Row, address: u8, byte: u8) -> bool
     byte & row.2 != 0
 }
 
+// What the twin lacks where a register has a setting that is not modelled.
+fn lack_at(address: u8) -> Answer
+    ensures { λ r. ⌜ r ≡ lackAt address ⌝ }
+{
+    let at = address as usize;
+    match at {
+        POWER_AT => Answer::NoPowerMode,
+        AXES_AT => Answer::NoDetector,
+        ENABLES_AT => Answer::NoDetector,
+        SLOW_AT => Answer::NoDetector,
+        LATCH_AT => Answer::NoLatchTime,
+        _ => Answer::NoTestOrTrim,
+    }
+}
+
 // What a write is answered.
 fn write_answer(regs: &[u8; 64], row: Row, address: u8, byte: u8) -> Answer
     ensures { λ r. ⌜ r ≡ answerAt (now (regs .entry)) row address byte ⌝ }
@@ -131,7 +175,7 @@ fn write_answer(regs: &[u8; 64], row: Row, address: u8, byte: u8) -> Answer
         return Answer::ReservedCode;
     }
     if is_not_modelled(regs, row, address, byte) {
-        return Answer::NotModelled;
+        return lack_at(address);
     }
     Answer::Done
 }

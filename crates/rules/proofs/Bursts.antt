@@ -15,7 +15,8 @@ use Rattle.codes.specs.Addresses.{framesAt}
 use Rattle.registers.specs.Answers.{number, accepted}
 use Rattle.registers.specs.Refused.{readAnswer, longestRead}
 use Rattle.registers.specs.declared.Answer.{Answer}
-use Rattle.registers.specs.declared.Answer.the-variants.{Done, NoAddress, ReservedCode, NotModelled, OutOfRange, BadLength, PastEnd}
+use Rattle.registers.specs.declared.Answer.the-variants.{Done, NoAddress, BadLength, PastEnd}
+use Rattle.registers.proofs.Answers.{zero-accepted}
 use Rattle.device.specs.Read.{singleByte, afterSingle, afterSingles, singleBytes, readOf}
 use Rattle.device.specs.declared.Device.{Device}
 use Rattle.events.specs.Event.{Event, powerUp, write, read, sample, cycle, bytesAt, gives, bytes}
@@ -66,13 +67,7 @@ burst-bounds a n h =
     (ltb-true a 0x3F (left (ltb a 0x3F) (both some ends) h), leb-true (a + n) 0x3F (right some ends (right (ltb a 0x3F) (both some ends) h)))
 
 answered-0 : (x : Answer) → accepted x ≡ true → number x ≡ 0
-answered-0 Done h = refl
-answered-0 NoAddress h = cc
-answered-0 ReservedCode h = cc
-answered-0 NotModelled h = cc
-answered-0 OutOfRange h = cc
-answered-0 BadLength h = cc
-answered-0 PastEnd h = cc
+answered-0 x h = eqb-true (number x) 0 (sym (zero-accepted x) ∙ h)
 
 -- ---- a read of one byte
 module _ (d : Device) (a : ℕ) (h : a < 0x3F) where

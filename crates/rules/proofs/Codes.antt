@@ -17,11 +17,12 @@ use Rattle.codes.specs.Mode.{modeOf, isReservedMode}
 use Rattle.codes.specs.declared.Mode.the-variants.{Bypass, Fifo, Stream, Reserved}
 use Rattle.table.specs.Rows.{rowAt, rowOf, lineOf, listed, refusedBits, reservedAddresses, resetBytes, merged}
 use Rattle.registers.specs.Answers.{accepted}
-use Rattle.registers.specs.Refused.{writeAnswer, answerAt, reservedCode, notModelled}
-use Rattle.registers.specs.declared.Answer.the-variants.{Done, NoAddress, ReservedCode, NotModelled}
+use Rattle.registers.specs.Refused.{writeAnswer, answerAt, reservedCode, notModelled, lackAt}
+use Rattle.registers.specs.declared.Answer.the-variants.{Done, NoAddress, ReservedCode}
+use Rattle.registers.proofs.Answers.{lack-refused}
 use Rattle.device.specs.Device.{firstBytes, powerUp, reg}
 
--- ---- "Refused 3: a 1 in .."
+-- ---- "Refused 3: a 1 in ..", 11 to 13 by Q-1
 pub first-clear : (a : ℕ) → a < 64 → bitAnd (reg powerUp a) (rowAt a .2) ≡ 0
 unfolding powerUp firstBytes resetBytes rowAt rowOf lineOf listed refusedBits reservedAddresses
 first-clear = alike (λ i. bitAnd (reg powerUp i) (rowAt i .2)) (λ i. 0) 64 refl
@@ -41,15 +42,15 @@ small-mode q = go (eqb q 0) refl (eqb q 1) refl (eqb q 2) refl
 
 module _ (regs : List ℕ) where
   module _ (a byte : ℕ) (h : accepted (writeAnswer regs a byte) ≡ true) where
-    -- neither 2 nor 3 is due
+    -- neither 2 nor what stands in 3's place is due
     none-due : (reservedCode regs a byte ≡ false) × (notModelled regs (rowAt a) a byte ≡ false)
     unfolding answerAt
     none-due = go (ltb framesAt a) (reservedCode regs a byte) (notModelled regs (rowAt a) a byte) h
       where
-        go : (r s t : Bool) → accepted (pick r NoAddress (pick s ReservedCode (pick t NotModelled Done))) ≡ true → (s ≡ false) × (t ≡ false)
+        go : (r s t : Bool) → accepted (pick r NoAddress (pick s ReservedCode (pick t (lackAt a) Done))) ≡ true → (s ≡ false) × (t ≡ false)
         go true s t e = (cc, cc)
         go false true t e = (cc, cc)
-        go false false true e = (refl, cc)
+        go false false true e = let f = lack-refused a in (refl, cc)
         go false false false e = (refl, refl)
 
     pub accepted-clear : bitAnd byte (rowAt a .2) ≡ 0

@@ -20,10 +20,11 @@ use Rattle.codes.specs.Mode.{modeOf}
 use Rattle.codes.specs.Addresses.{framesAt}
 use Rattle.table.specs.Rows.{rowAt, rowOf, lineOf, listed, refusedBits, reservedAddresses, resetBytes, merged, writable}
 use Rattle.registers.specs.Answers.{accepted}
-use Rattle.registers.specs.Refused.{writeAnswer, answerAt, reservedCode, notModelled}
-use Rattle.registers.specs.declared.Answer.the-variants.{Done, ReservedCode, NotModelled}
+use Rattle.registers.specs.Refused.{writeAnswer, answerAt, reservedCode, notModelled, lackAt}
+use Rattle.registers.specs.declared.Answer.the-variants.{Done, ReservedCode}
+use Rattle.registers.proofs.Answers.{lack-refused}
 use Rattle.device.specs.Device.{firstBytes}
-use Rattle.rules.specs.Paper.{tableRows, rowsOf, resetOf, maskOf, byteOf, masked, isRefused2, isRefused3, accepts}
+use Rattle.rules.specs.Paper.{tableRows, rowsOf, resetOf, maskOf, byteOf, masked, isRefused2, isLacking, accepts}
 use Rattle.rules.proofs.Bits.{bit-merged}
 
 -- ---- the rows
@@ -96,17 +97,17 @@ module _ (regs : List ℕ) where
   unfolding reservedCode rangeOf modeOf isRefused2
   refused2-is = everywhere (reservedCode regs) isRefused2 refl
 
-  refused3-is : (a b : ℕ) → a < 64 → b < 256 → notModelled regs (rowAt a) a b ≡ isRefused3 a b
-  unfolding notModelled rowAt rowOf lineOf listed refusedBits reservedAddresses latchOf isRefused3 bit
-  refused3-is = everywhere (λ a b. notModelled regs (rowAt a) a b) isRefused3 refl
+  lacking-is : (a b : ℕ) → a < 64 → b < 256 → notModelled regs (rowAt a) a b ≡ isLacking a b
+  unfolding notModelled rowAt rowOf lineOf listed refusedBits reservedAddresses latchOf isLacking bit
+  lacking-is = everywhere (λ a b. notModelled regs (rowAt a) a b) isLacking refl
 
   pub accepts-is : (a b : ℕ) → b < 256 → accepted (writeAnswer regs a b) ≡ accepts a b
   unfolding answerAt accepts
   accepts-is a b k = go (ltb framesAt a) refl
     where
-      tests : (r s : Bool) → accepted (pick r ReservedCode (pick s NotModelled Done)) ≡ not (either r s)
+      tests : (r s : Bool) → accepted (pick r ReservedCode (pick s (lackAt a) Done)) ≡ not (either r s)
       tests true s = refl
-      tests false true = refl
+      tests false true = lack-refused a
       tests false false = refl
 
       go : (t : Bool) → ltb framesAt a ≡ t → accepted (writeAnswer regs a b) ≡ accepts a b
@@ -114,4 +115,4 @@ module _ (regs : List ℕ) where
       go false e =
           let h = ltb-false framesAt a e in
           let low : a < 64 = omega arith in
-          rw (e, le-leb a 0x3F h, refused2-is a b low k, refused3-is a b low k) (tests (isRefused2 a b) (isRefused3 a b))
+          rw (e, le-leb a 0x3F h, refused2-is a b low k, lacking-is a b low k) (tests (isRefused2 a b) (isLacking a b))

@@ -133,7 +133,7 @@ module _ (es : List Event) where
             rw (v .is, f .is, bit-merged (rowAt a) (v .byte) k h, bit-merged (rowAt a) (f .byte) k h, m)
         go false e = rw (proper es .fixed a low e)
 
-    -- "Refused 3: a 1 in ..": no such bit is ever stored
+    -- "Refused 3: a 1 in ..", 11 to 13 by Q-1: no such bit is ever stored
     pub unset : (k : ℕ) → k < 8 → bit k (rowAt a .2) ≡ true → bit k (stored es a) ≡ false
     unset k h m = rw (← bank-is es) (go (writable a) refl (bit k (rowAt a .1)) refl)
       where
@@ -155,7 +155,7 @@ module _ (es : List Event) where
   pub mode-known : isReservedMode (modeOf (stored es controlAt)) ≡ false
   mode-known = let v = proper es .written controlAt (omega arith) (settable controlAt refl) in rw (← bank-is es, v .is) (mode-stored (v .regs) (v .byte) (v .ok))
 
-  -- "others are refused 3"
+  -- "others are refused 3", 14 by Q-1
   pub latch-known : isModelled (latchOf (stored es latchAt)) ≡ true
   latch-known = let v = proper es .written latchAt (omega arith) (settable latchAt refl) in rw (← bank-is es, v .is) (latch-stored (v .regs) (v .byte) (v .ok))
 

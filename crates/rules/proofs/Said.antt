@@ -17,7 +17,7 @@ use Rattle.codes.specs.Mode.{modeOf}
 use Rattle.fifo.specs.Setting.{depthIn}
 use Rattle.table.specs.Rows.{rowAt, rowOf, lineOf, listed, refusedBits, reservedAddresses}
 use Rattle.registers.specs.Answers.{number}
-use Rattle.registers.specs.Refused.{writeAnswer, answerAt, reservedCode, notModelled}
+use Rattle.registers.specs.Refused.{writeAnswer, answerAt, reservedCode, notModelled, lackAt}
 use Rattle.device.specs.Device.{depth}
 use Rattle.events.specs.Event.{Event, write, read, gives, answer, bytes}
 use Rattle.events.specs.Run.{after}
@@ -63,10 +63,10 @@ module _ (es : List Event) (b : ByteWrites es) where
   pub level-33 : 32 < byteBy es 0x30 → watermarkStatus (elsewhereIn (after es)) es ≡ false
   level-33 h = level-above (omega (arith, depth-32))
 
--- ---- "Refused 3: a 1 in .. 0x36 bits 7:5 or 2:0": of the bytes written to 0x36 four are answered 0, and all others 3
-answers-36 : (regs : List ℕ) (byte : ℕ) → byte < 256 → number (writeAnswer regs 0x36 byte) ≡ pick (isIn (0x00 ∷ 0x08 ∷ 0x10 ∷ 0x18 ∷ []) byte) 0 3
-unfolding answerAt reservedCode notModelled rowAt rowOf lineOf listed refusedBits reservedAddresses
-answers-36 regs = alike (λ byte. number (writeAnswer regs 0x36 byte)) (λ byte. pick (isIn (0x00 ∷ 0x08 ∷ 0x10 ∷ 0x18 ∷ []) byte) 0 3) 256 refl
+-- ---- "Refused 3: a 1 in .. 0x36 bits 7:5 or 2:0", 13 by Q-1: of the bytes written to 0x36 four are answered 0, and all others 13
+answers-36 : (regs : List ℕ) (byte : ℕ) → byte < 256 → number (writeAnswer regs 0x36 byte) ≡ pick (isIn (0x00 ∷ 0x08 ∷ 0x10 ∷ 0x18 ∷ []) byte) 0 13
+unfolding answerAt reservedCode notModelled lackAt rowAt rowOf lineOf listed refusedBits reservedAddresses
+answers-36 regs = alike (λ byte. number (writeAnswer regs 0x36 byte)) (λ byte. pick (isIn (0x00 ∷ 0x08 ∷ 0x10 ∷ 0x18 ∷ []) byte) 0 13) 256 refl
 
-pub write-36 : (es : List Event) (byte : ℕ) → byte < 256 → gives (after es) (write 0x36 byte) ≡ answer (pick (isIn (0x00 ∷ 0x08 ∷ 0x10 ∷ 0x18 ∷ []) byte) 0 3)
+pub write-36 : (es : List Event) (byte : ℕ) → byte < 256 → gives (after es) (write 0x36 byte) ≡ answer (pick (isIn (0x00 ∷ 0x08 ∷ 0x10 ∷ 0x18 ∷ []) byte) 0 13)
 write-36 es byte h = answered es 0x36 byte ∙ rw (answers-36 (bank es) byte h)

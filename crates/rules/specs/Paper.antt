@@ -86,9 +86,10 @@ isRefused2 a b =
     either (both (eqb a 0x0F) (not (isIn (0b0011 ∷ 0b0101 ∷ 0b1000 ∷ 0b1100 ∷ []) (b % 16))))
     (both (eqb a 0x3E) (eqb (b / 64) 0b11))
 
-unfoldable pub isRefused3 : ℕ → ℕ → Bool
-isRefused3 a b =
-    -- "21: low nibble 0000 and 1000 non-latched, 0111 and 1111 latched; others are refused 3"
+-- in 3's place, by Q-1: "Split it by register"
+unfoldable pub isLacking : ℕ → ℕ → Bool
+isLacking a b =
+    -- "21: low nibble 0000 and 1000 non-latched, 0111 and 1111 latched; others are refused 3", a latch time
     either (both (eqb a 0x21) (not (isIn (0b0000 ∷ 0b1000 ∷ 0b0111 ∷ 0b1111 ∷ []) (b % 16))))
     -- "Refused 3: a 1 in 0x11 bits 7:5, 0x16 bits 7:4, 0x17 bits 3:0, 0x18 bits 2:0, 0x32 bits 1:0, 0x33 bits 3, 1, 0, 0x36 bits 7:5 or 2:0"
     (either (both (eqb a 0x11) (oneIn (7 ∷ 6 ∷ 5 ∷ []) b))
@@ -103,4 +104,4 @@ isRefused3 a b =
 
 -- 1: "address above 0x3F"; every other write is accepted
 unfoldable pub accepts : ℕ → ℕ → Bool
-accepts a b = both (leb a 0x3F) (not (either (isRefused2 a b) (isRefused3 a b)))
+accepts a b = both (leb a 0x3F) (not (either (isRefused2 a b) (isLacking a b)))

@@ -43,7 +43,7 @@ find (l ∷ ls) a other = pick (eqb a (l .address)) l (find ls a other)
 unfoldable pub lineOf : ℕ → Line
 lineOf a = find listed a (pick (isIn reservedAddresses a) (line a 0xFF 0) (line a 0 0))
 
--- "Refused 3: a 1 in ..": an address, with those bits as the mask
+-- "Refused 3: a 1 in .."; by Q-1 the number is the register's. An address, with those bits as the mask
 unfoldable pub refusedBits : List Line
 refusedBits =
     line 0x11 0 0xE0 ∷ line 0x16 0 0xF0 ∷ line 0x17 0 0x0F ∷ line 0x18 0 0x07 ∷ line 0x32 0 0x03 ∷ line 0x33 0 0x0B ∷

@@ -1,4 +1,4 @@
-// The table of 01: reset byte, write mask and the bits of which a 1 is refused 3, by address.
+// The table of 01: reset byte, write mask and the bits of which a 1 is refused, by address.
 ghost use mathlib.Core.Path.{_≡_};
 ghost use Rattle.table.specs.Rows.{rowAt, resetBytes, merged};
 

@@ -12,5 +12,6 @@ write-answer-spec =
     (λ c κs. tt)
     (λ c. simp (le-ltb _ _ (c .before .before .if1 .left), ← c .before .is-reserved-code .ensures, c .if2 .taken))
     (λ c κs. tt)
-    (λ c. simp (le-ltb _ _ (c .before .before .before .before .if1 .left), ← c .before .before .before .is-reserved-code .ensures, c .before .before .if2 .left, ← c .before .is-not-modelled .ensures, c .if3 .taken))
+    (λ c κs. tt)
+    (λ c. simp (le-ltb _ _ (c .before .before .before .before .before .if1 .left), ← c .before .before .before .before .is-reserved-code .ensures, c .before .before .before .if2 .left, ← c .before .before .is-not-modelled .ensures, c .before .if3 .taken, c .lack-at .ensures))
     (λ c. simp (le-ltb _ _ (c .before .before .before .before .if1 .left), ← c .before .before .before .is-reserved-code .ensures, c .before .before .if2 .left, ← c .before .is-not-modelled .ensures, c .if3 .left)))
