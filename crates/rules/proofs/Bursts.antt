@@ -15,7 +15,7 @@ use Rattle.codes.specs.Addresses.{framesAt}
 use Rattle.registers.specs.Answers.{number, accepted}
 use Rattle.registers.specs.Refused.{readAnswer, longestRead}
 use Rattle.registers.specs.declared.Answer.{Answer}
-use Rattle.registers.specs.declared.Answer.the-variants.{Done, NoAddress, BadLength, PastEnd}
+use Rattle.registers.specs.declared.Answer.the-variants.{Done, BadLength, PastEnd}
 use Rattle.registers.proofs.Answers.{zero-accepted}
 use Rattle.device.specs.Read.{singleByte, afterSingle, afterSingles, singleBytes, readOf}
 use Rattle.device.specs.declared.Device.{Device}
