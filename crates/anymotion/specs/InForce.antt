@@ -1,7 +1,7 @@
 -- 01, "Register table" and "Interrupts and pins": what of a history any-motion goes by. Of a history the latest event stands first; an
 -- event e after a history es is the history e ∷ es.
 use Prim.Native.Nat.{ℕ, _+_, _%_}
-use mathlib.Core.Bool.{Bool, true, false}
+use mathlib.Core.Bool.{Bool, false}
 use mathlib.Core.List.{List, [], _∷_}
 use lib.Dec.{eqb}
 use lib.IntN.{ℤ, pos, negℤ}

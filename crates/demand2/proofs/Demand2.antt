@@ -3,20 +3,17 @@
 use Prim.Native.Nat.{ℕ, _≤_}
 use mathlib.Core.Bool.{true, false}
 use mathlib.Core.List.{List}
-use mathlib.Core.Path.{_≡_, refl, ap, sym, subst, _∙_}
+use mathlib.Core.Path.{_≡_, subst, _∙_}
 use native.Mathlib.Omega.{arith}
 use lib.Dec.{eqb, ltb}
-use lib.ListN.{length}
 use borrow.Author.Tests.{le-ltb, ne-eqb}
 use Rattle.laws.specs.Bits.{bit}
-use Rattle.laws.specs.Bytes.{zeros, firstOrZeros}
+use Rattle.laws.specs.Bytes.{firstOrZeros}
 use Rattle.laws.proofs.Bytes.{length-zeros}
-use Rattle.fifo.specs.Flat.{Flat, flat, packed}
-use Rattle.fifo.specs.Ledger.{heldOf, lostOf}
-use Rattle.motion.specs.declared.Motion.{Motion}
-use Rattle.registers.specs.Answers.{accepted, number}
+use Rattle.fifo.specs.Flat.{flat, packed}
+use Rattle.fifo.specs.Ledger.{heldOf}
+use Rattle.registers.specs.Answers.{accepted}
 use Rattle.registers.specs.Refused.{readAnswer}
-use Rattle.device.specs.Device.{flatOf}
 use Rattle.device.specs.Read.{readOf, burstBytes, bufferAfter}
 use Rattle.device.specs.Show.{pinsOf}
 use Rattle.events.specs.Event.{Event, read, bytes, gives}
@@ -25,10 +22,7 @@ use Rattle.history.specs.Chip.{readOut}
 use Rattle.history.specs.Demand.{fates}
 use Rattle.history.specs.History.{accelerometer, readsOut, saysHere, twin}
 use Rattle.history.proofs.Conserve.{demand3, device-holds}
-use Rattle.anymotion.specs.Status.{isSet}
-use Rattle.anymotion.specs.Marks.{markOf, signOf, markedAxes}
 use Rattle.anymotion.proofs.Detector.{detector-is}
-use Rattle.rules.specs.Bursts.{isBurst}
 use Rattle.rules.specs.Rules.{Elsewhere, ruled, toInt1, toInt2, someMapped, Leveled}
 use Rattle.rules.specs.Stored.{ByteWrites}
 use Rattle.rules.proofs.Reading.{elsewhereIn, reads}

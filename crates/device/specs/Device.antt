@@ -1,6 +1,6 @@
 -- 01, "What the twin covers": the device record, and the device after power-up.
 use Prim.Native.Nat.{ℕ}
-use mathlib.Core.Bool.{Bool, true, false}
+use mathlib.Core.Bool.{Bool, false}
 use mathlib.Core.List.{List}
 use lib.ListN.{getD, set}
 use Rattle.fifo.specs.Flat.{Flat, flatAt, numbersOf}

@@ -1,6 +1,6 @@
 -- A sample, and the start of an acquisition cycle.
 use Prim.Native.Nat.{ℕ}
-use mathlib.Core.Bool.{Bool, true, false, not}
+use mathlib.Core.Bool.{true, false, not}
 use mathlib.Core.List.{List, [], _∷_}
 use lib.IntN.{ℤ}
 use Rattle.laws.specs.Choice.{pick, either}

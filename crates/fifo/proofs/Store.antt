@@ -11,14 +11,14 @@ use lib.Dec.{ltb}
 use borrow.Author.Tests.{ltb-true}
 use Rattle.laws.specs.Choice.{pick}
 use Rattle.laws.specs.Bits.{worth}
-use Rattle.laws.specs.Bytes.{zeros, padded, firstOrZeros}
+use Rattle.laws.specs.Bytes.{padded, firstOrZeros}
 use Rattle.codes.specs.declared.Mode.{Mode}
 use Rattle.codes.specs.declared.Axes.{Axes}
 use Rattle.fifo.specs.declared.Drop.{Drop}
 use Rattle.fifo.specs.declared.Drop.the-variants.{Newcomer, Oldest}
 use Rattle.fifo.specs.declared.Setting.{Setting}
 use Rattle.fifo.specs.declared.Fifo.{Fifo}
-use Rattle.fifo.specs.Setting.{sizeOf, depthIn, dropsIn, settingOf}
+use Rattle.fifo.specs.Setting.{sizeOf, depthIn, settingOf}
 use Rattle.fifo.specs.Queue.{Queue, reached, empty, pushed, without}
 use Rattle.fifo.specs.Ledger.{Event}
 use Rattle.fifo.specs.Flat.{Flat, flat, packed, behind, flatFull, flatPushed, flatRead, numbersOf}

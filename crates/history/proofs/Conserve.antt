@@ -40,7 +40,7 @@ use Rattle.device.specs.declared.Device.{Device}
 use Rattle.events.specs.Event.{Event, powerUp, write, read, sample, cycle}
 use Rattle.events.specs.Run.{after}
 use Rattle.history.specs.Chip.{Said, cleared, sampled, readOut, nothing, since}
-use Rattle.history.specs.Demand.{fates, Demand3}
+use Rattle.history.specs.Demand.{fates}
 use Rattle.history.specs.History.{readsOut, control, setting, frame, saysHere, accelerometer, twin, LostIn, Demand3Here}
 use Rattle.history.specs.Lost.{LostBy}
 use Rattle.history.specs.Whole.{OverClears}

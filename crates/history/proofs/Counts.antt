@@ -2,7 +2,7 @@
 -- Assumes nothing.
 use Prim.Native.Nat.{ℕ, zero, suc, _+_, _-_, _*_, _/_, _%_, _≤_, _<_, min}
 use mathlib.Core.Bool.{Bool, true, false}
-use mathlib.Core.List.{List, [], _∷_, _++_}
+use mathlib.Core.List.{List, [], _∷_}
 use mathlib.Core.Logic.{_↔_}
 use mathlib.Core.Path.{_≡_, refl, ap, sym, _∙_}
 use native.Mathlib.Nat.{div-eq-of-lt, div-eq-of-lt-le, div-add-mod', mod-lt, add-div-right, le-div-iff-mul-le}
@@ -17,7 +17,7 @@ use Rattle.fifo.specs.declared.Drop.{Drop}
 use Rattle.fifo.specs.declared.Drop.the-variants.{Newcomer, Oldest}
 use Rattle.fifo.specs.declared.Setting.{Setting}
 use Rattle.fifo.proofs.Conserve.{conserved}
-use Rattle.history.specs.Counts.{arrivals, begun, heldAfter}
+use Rattle.history.specs.Counts.{begun, heldAfter}
 
 -- ---- frames that a readout reaches
 module _ (size : ℕ) (one : 1 ≤ size) where

@@ -1,21 +1,21 @@
 -- The ledger's "lost" is demand 3's, sample by sample: over any depth, drop rule and frame size.
 -- Assumes nothing.
-use Prim.Native.Nat.{ℕ, zero, suc, _+_, _≤_, _<_}
+use Prim.Native.Nat.{ℕ, suc, _+_, _≤_, _<_}
 use mathlib.Core.Bool.{Bool, true, false}
 use mathlib.Core.List.{List, [], _∷_, _++_}
 use mathlib.Core.Logic.{_↔_, ⊎-elim}
 use mathlib.Core.Option.{some}
-use mathlib.Core.Path.{_≡_, refl, ap, sym, _∙_}
+use mathlib.Core.Path.{_≡_, refl, ap}
 use native.Mathlib.Omega.{arith}
 use lib.Dec.{ltb}
-use borrow.Author.Tests.{ltb-true, ltb-false, lt-ltb, le-ltb}
-use Rattle.fifo.specs.Ledger.{Event, sample, readout, held, lost, heldIn, marks}
+use borrow.Author.Tests.{ltb-false, le-ltb}
+use Rattle.fifo.specs.Ledger.{Event, sample, readout, held, lost, marks}
 use Rattle.fifo.specs.Queue.{reached}
 use Rattle.fifo.specs.declared.Drop.{Drop}
 use Rattle.fifo.specs.declared.Drop.the-variants.{Newcomer, Oldest}
 use Rattle.fifo.specs.declared.Setting.{Setting}
 use Rattle.fifo.proofs.Conserve.{conserved}
-use Rattle.history.specs.Counts.{arrivals, heldAfter, enters}
+use Rattle.history.specs.Counts.{arrivals, heldAfter}
 use Rattle.history.specs.Lost.{upTo, Saw, LostBy}
 use Rattle.history.proofs.Counts.{held-counted}
 use Rattle.history.proofs.Marks.{passed-lost, held-lost, takes-lost, arrives-lost}

@@ -18,7 +18,7 @@ use Rattle.fifo.specs.Ledger as fifo
 use Rattle.fifo.specs.declared.Drop.{Drop}
 use Rattle.fifo.specs.declared.Drop.the-variants.{Newcomer, Oldest}
 use Rattle.fifo.specs.declared.Setting.{Setting}
-use Rattle.history.specs.Chip.{Said, cleared, sampled, readOut, nothing, Chip, Twin, since}
+use Rattle.history.specs.Chip.{Said, cleared, sampled, readOut, Chip, Twin, since}
 use Rattle.history.specs.Counts.{arrivals, heldAfter}
 use Rattle.history.specs.Demand.{fates, Demand3}
 use Rattle.history.specs.Lost.{Saw, LostBy}

@@ -4,7 +4,7 @@
 use Prim.Native.Nat.{ℕ, _≤_}
 use mathlib.Core.Bool.{Bool, true, false}
 use mathlib.Core.List.{List, [], _∷_}
-use mathlib.Core.Path.{_≡_, refl, ap, _∙_}
+use mathlib.Core.Path.{_≡_, refl, _∙_}
 use native.Mathlib.Omega.{arith}
 use lib.Dec.{eqb}
 use lib.IntN.{ℤ}
@@ -20,7 +20,7 @@ use Rattle.fifo.specs.Ledger as ledger
 use Rattle.fifo.specs.Ledger.{run}
 use Rattle.fifo.specs.Queue.{Queue, empty, pushed, without, reached}
 use Rattle.fifo.specs.Setting.{sizeOf, settingOf}
-use Rattle.fifo.specs.Store.{room, emptied}
+use Rattle.fifo.specs.Store.{room}
 use Rattle.fifo.proofs.Bounds.{Deep}
 use Rattle.fifo.proofs.Store.{Fits, fits-empty, fits-pushed, fits-read, pushed-packed, read-packed, empty-packed}
 use Rattle.channels.specs.Codes.{codes}

@@ -10,7 +10,7 @@ use lib.ListN.{length, take, length-append, length-take}
 use borrow.Author.Tests.{eqb-true, eqb-false}
 use Rattle.laws.specs.Bits.{worth}
 use Rattle.fifo.specs.Ledger as ledger
-use Rattle.fifo.specs.Ledger.{Mark, marks, run, accepted, heldIn, takenOf, heldOf, lostOf}
+use Rattle.fifo.specs.Ledger.{Mark, marks, run, accepted, takenOf, heldOf, lostOf}
 use Rattle.fifo.specs.Queue.{reached}
 use Rattle.fifo.specs.declared.Drop.the-variants.{Oldest}
 use Rattle.fifo.specs.declared.Setting.{Setting}

@@ -1,6 +1,6 @@
 -- 01's printed case, and logs on either side of what stops a replay: what the replay prints, by computation.
 -- Assumes nothing.
-use mathlib.Core.List.{List, map}
+use mathlib.Core.List.{map}
 use mathlib.Core.Path.{_≡_, refl}
 use Rattle.laws.specs.Bits.{bit}
 use Rattle.laws.specs.Bytes.{zeros, firstOrZeros, movedForward}

@@ -1,16 +1,16 @@
 -- Turns over the parts that reads give are a pump over those parts: what the runs see is, in order and whole, their sum, and the last
 -- of them is known to be the last. So the text is that of the whole log.
 -- Assumes nothing.
-use Prim.Native.Nat.{ℕ, _≤_, _<_}
+use Prim.Native.Nat.{ℕ}
 use mathlib.Core.Bool.{Bool, true, false}
 use mathlib.Core.List.{List, [], _∷_, _++_, append-nil}
-use mathlib.Core.Path.{_≡_, refl, sym, ap, _∙_}
+use mathlib.Core.Path.{_≡_, refl, ap, _∙_}
 use native.Mathlib.Omega.{arith}
 use borrow.Author.Tests.{ne-eqb}
 use lib.Dec.{eqb}
 use lib.ListN.{length, drop}
 use Rattle.follow.specs.Follow.{runOf}
-use Rattle.follow.specs.declared.Next.the-variants.{Wait, Full, Stop}
+use Rattle.follow.specs.declared.Next.the-variants.{Wait}
 use Rattle.follow.specs.Whole.{Pumped, stopped, emptied, filled, ended, joined, printedFrom}
 use Rattle.follow.proofs.Stream.{waits, any-division}
 use Rattle.playback.specs.Replay as replay

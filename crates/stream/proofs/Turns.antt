@@ -1,7 +1,7 @@
 -- A turn: what its run used, what it left, and what follows it.
 -- Assumes nothing.
 use Prim.Native.Nat.{ℕ, _+_, _<_}
-use mathlib.Core.Bool.{Bool, true, false}
+use mathlib.Core.Bool.{true, false}
 use mathlib.Core.List.{List}
 use mathlib.Core.Path.{_≡_, refl, sym, ap, subst, _∙_}
 use native.Mathlib.Omega.{arith}
@@ -10,7 +10,7 @@ use lib.Seq.{length-take-le}
 use Rattle.text.proofs.Texts.{pushed-length}
 use Rattle.benchlog.specs.Format.{lengthField, longestBody}
 use Rattle.benchlog.proofs.Local.{few-undecided}
-use Rattle.follow.specs.Follow.{Running, runOf}
+use Rattle.follow.specs.Follow.{Running}
 use Rattle.follow.specs.declared.Next.{Next}
 use Rattle.follow.specs.declared.Next.the-variants.{Go, Wait, Full, Stop}
 use Rattle.follow.proofs.Stream.{never-go, waits, used-within}

@@ -3,7 +3,6 @@ use Prim.Native.Nat.{ℕ, _+_, _*_}
 use mathlib.Core.List.{List, [], _∷_}
 use mathlib.Core.Option.{Option, some, none}
 use lib.IntN.{ℤ}
-use lib.ListN.{length}
 use Rattle.laws.specs.Keys.{Key, _means_, meaningOf}
 use Rattle.registers.specs.Answers.{number}
 use Rattle.interrupts.specs.declared.Level.{Level}

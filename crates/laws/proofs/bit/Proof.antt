@@ -1,5 +1,5 @@
 -- Past the eighth bit a byte has no more: it is below 2 ^ 8, and so below 2 ^ place.
-use Prim.Native.Nat.{ℕ, _≤_, _<_, _^_, _/_}
+use Prim.Native.Nat.{_≤_, _^_, _/_}
 use mathlib.Core.Path.{_≡_}
 use native.Mathlib.Omega.{arith}
 use native.Mathlib.Nat.{div-eq-of-lt}
