@@ -20,11 +20,11 @@
 #include <string.h>
 
 /* The version of this header and of the library beside it: the last number moves where no name does, the middle one where names are
- * added, the first where a caller may have to be changed. */
-#define TWIN_VERSION_MAJOR 2
+ * added, the first where a caller may have to be changed. Since 3 the watermark stays 1 above its level; 2 showed it at the level alone. */
+#define TWIN_VERSION_MAJOR 3
 #define TWIN_VERSION_MINOR 0
 #define TWIN_VERSION_PATCH 0
-#define TWIN_VERSION "2.0.0"
+#define TWIN_VERSION "3.0.0"
 
 #ifdef __cplusplus
 extern "C" {

@@ -154,18 +154,161 @@ static void p8_to_p10(void)
     check(peer_write(&t, 0x21, 0x07) == 0 && gives(&t, 0x21, "07"), "P10 07 gives 0");
 }
 
-static void watermark(void)
+/* ---- watermark ---- */
+
+static void sample_times(struct peer *t, int times)
+{
+    while (times-- > 0)
+        sample_x(t, 0);
+}
+
+/* A fresh twin with the watermark on, in this mode and at this level. */
+static struct peer at_level(uint8_t mode, uint8_t level)
 {
     struct peer t = fresh(0x17, 0x40);
 
-    peer_write(&t, 0x30, 2);
-    peer_write(&t, 0x3E, 0x40);
+    peer_write(&t, 0x30, level);
+    peer_write(&t, 0x3E, mode);
+    return t;
+}
+
+static void watermark_of_2(void)
+{
+    struct peer t = at_level(0x40, 2);
+
     sample_x(&t, 0);
     check(gives(&t, 0x0A, "00"), "watermark 2, one frame: 0");
     sample_x(&t, 0);
     check(gives(&t, 0x0A, "40"), "watermark 2, two frames: 1");
     sample_x(&t, 0);
-    check(gives(&t, 0x0A, "00"), "watermark 2, three frames: 0");
+    check(gives(&t, 0x0A, "40"), "watermark 2, three frames: 1");
+}
+
+/* So many samples, an event as the body of a record, so many samples more: then 0x0A and 0x0E. */
+static const struct {
+    uint8_t mode, level;
+    int before;
+    const char *event;
+    int after;
+    const char *status, *count;
+} reached[] = {
+    /* FIFO mode */
+    {0x40, 1, 0, "", 0, "00", "00"},           {0x40, 1, 1, "", 0, "40", "01"},
+    {0x40, 1, 2, "", 0, "40", "02"},           {0x40, 1, 33, "", 0, "40", "A0"},
+    {0x40, 2, 1, "", 0, "00", "01"},           {0x40, 2, 2, "", 0, "40", "02"},
+    {0x40, 2, 3, "", 0, "40", "03"},           {0x40, 2, 32, "", 0, "40", "20"},
+    {0x40, 31, 30, "", 0, "00", "1E"},         {0x40, 31, 31, "", 0, "40", "1F"},
+    {0x40, 31, 32, "", 0, "40", "20"},         {0x40, 32, 31, "", 0, "00", "1F"},
+    {0x40, 32, 32, "", 0, "40", "20"},         {0x40, 32, 33, "", 0, "40", "A0"},
+    /* STREAM mode */
+    {0x80, 2, 1, "", 0, "00", "01"},           {0x80, 2, 2, "", 0, "40", "02"},
+    {0x80, 2, 3, "", 0, "40", "03"},           {0x80, 32, 31, "", 0, "00", "1F"},
+    {0x80, 32, 32, "", 0, "40", "20"},         {0x80, 32, 33, "", 0, "40", "A0"},
+    {0x80, 31, 33, "", 0, "40", "A0"},         {0x80, 32, 64, "", 0, "40", "A0"},
+    /* BYPASS */
+    {0x00, 1, 0, "", 0, "00", "00"},           {0x00, 1, 1, "", 0, "40", "01"},
+    {0x00, 1, 2, "", 0, "40", "81"},           {0x00, 2, 1, "", 0, "00", "01"},
+    {0x00, 2, 2, "", 0, "00", "81"},           {0x00, 2, 3, "", 0, "00", "81"},
+    {0x00, 0, 1, "", 0, "00", "01"},           {0x00, 32, 33, "", 0, "00", "81"},
+    /* levels that never fire */
+    {0x40, 0, 0, "", 0, "00", "00"},           {0x40, 0, 1, "", 0, "00", "01"},
+    {0x40, 0, 33, "", 0, "00", "A0"},          {0x40, 33, 32, "", 0, "00", "20"},
+    {0x40, 33, 33, "", 0, "00", "A0"},         {0x40, 63, 32, "", 0, "00", "20"},
+    {0x80, 0, 32, "", 0, "00", "20"},          {0x80, 33, 33, "", 0, "00", "A0"},
+    {0x80, 63, 63, "", 0, "00", "A0"},         {0x00, 33, 33, "", 0, "00", "81"},
+    /* bits 7:6 of 0x30 are ignored */
+    {0x40, 0xC2, 1, "", 0, "00", "01"},        {0x40, 0xC2, 3, "", 0, "40", "03"},
+    {0x40, 0x40, 1, "", 0, "00", "01"},        {0x80, 0xE0, 32, "", 0, "40", "20"},
+    /* readouts of whole and of part frames, to the level and below it */
+    {0x40, 2, 3, "02 3F 06", 0, "40", "02"},   {0x40, 2, 3, "02 3F 01", 0, "40", "02"},
+    {0x40, 2, 3, "02 3F 07", 0, "00", "01"},   {0x40, 2, 3, "02 3F 0C", 0, "00", "01"},
+    {0x40, 2, 2, "02 3F 01", 0, "00", "01"},   {0x40, 2, 2, "02 3F 01", 1, "40", "02"},
+    {0x40, 2, 2, "02 3F C0", 1, "00", "01"},   {0x40, 2, 32, "02 3F B4", 0, "40", "02"},
+    {0x40, 2, 32, "02 3F B5", 0, "00", "01"},  {0x40, 1, 0, "02 3F 06", 0, "00", "00"},
+    {0x40, 32, 33, "02 3F 01", 0, "00", "9F"}, {0x40, 32, 33, "02 3F 01", 1, "40", "A0"},
+    {0x80, 31, 33, "02 3F 06", 0, "40", "9F"}, {0x80, 31, 33, "02 3F 07", 0, "00", "9E"},
+    {0x40, 33, 33, "02 3F 01", 0, "00", "9F"}, {0x00, 1, 1, "02 3F 01", 0, "00", "00"},
+    {0x00, 1, 1, "02 3F 06", 2, "40", "81"},   {0x00, 2, 2, "02 3F 06", 1, "00", "81"},
+    {0x41, 3, 5, "02 3F 03", 0, "40", "03"},   {0x41, 3, 5, "02 3F 05", 0, "00", "02"},
+    {0x82, 3, 5, "02 3F 04", 0, "40", "03"},   {0x83, 3, 3, "02 3F 01", 0, "00", "02"},
+    {0x40, 2, 2, "02 3F C1", 0, "40", "02"},   {0x40, 2, 2, "02 02 06", 0, "40", "02"},
+    /* another level while frames wait */
+    {0x40, 2, 2, "01 30 00", 0, "00", "02"},   {0x40, 3, 2, "01 30 01", 0, "40", "02"},
+    {0x40, 3, 2, "01 30 02", 0, "40", "02"},   {0x40, 2, 2, "01 30 03", 0, "00", "02"},
+    {0x40, 2, 2, "01 30 03", 1, "40", "03"},   {0x40, 2, 2, "01 30 04", 1, "00", "03"},
+    {0x80, 2, 32, "01 30 21", 0, "00", "20"},  {0x80, 63, 32, "01 30 20", 0, "40", "20"},
+    /* another mode, or the same one: empty at first */
+    {0x40, 2, 2, "01 3E 40", 0, "00", "00"},   {0x40, 2, 2, "01 3E 40", 2, "40", "02"},
+    {0x40, 2, 3, "01 3E 80", 1, "00", "01"},   {0x40, 2, 3, "01 3E 80", 3, "40", "03"},
+    {0x40, 2, 3, "01 3E 00", 1, "00", "01"},   {0x40, 1, 3, "01 3E 00", 1, "40", "01"},
+    {0x00, 2, 2, "01 3E 40", 2, "40", "02"},   {0x40, 2, 2, "01 3E C0", 0, "40", "02"},
+    /* 0x17 bit 6 off, on, refused; data and full beside it */
+    {0x40, 2, 2, "01 17 00", 1, "00", "03"},   {0x40, 2, 2, "01 17 40", 1, "40", "03"},
+    {0x40, 2, 2, "01 17 01", 1, "40", "03"},   {0x40, 2, 2, "01 17 30", 1, "80", "03"},
+    {0x40, 2, 1, "01 17 70", 1, "C0", "02"},   {0x40, 2, 1, "01 17 70", 31, "E0", "20"},
+    {0x40, 2, 1, "01 17 60", 30, "40", "1F"},  {0x40, 2, 1, "01 17 60", 31, "60", "20"},
+    {0x80, 32, 1, "01 17 60", 30, "00", "1F"}, {0x80, 32, 1, "01 17 60", 32, "60", "A0"},
+    {0x40, 2, 1, "01 17 20", 31, "20", "20"},  {0x40, 0, 1, "01 17 60", 31, "20", "20"},
+    {0x40, 33, 1, "01 17 60", 32, "20", "A0"}, {0x00, 1, 0, "01 17 60", 1, "60", "01"},
+    {0x00, 2, 0, "01 17 60", 1, "20", "01"},   {0x00, 2, 0, "01 17 60", 2, "20", "81"},
+    /* events that leave it, and the one that ends it */
+    {0x40, 2, 2, "04", 0, "40", "02"},         {0x40, 2, 2, "01 14 B5", 0, "40", "02"},
+    {0x40, 2, 1, "03 08 00 00 00 00 00 00", 0, "00", "01"},
+    {0x40, 2, 2, "01 14 B6", 3, "00", "81"},
+};
+
+static void watermark_reached(void)
+{
+    for (size_t i = 0; i < sizeof reached / sizeof *reached; i++) {
+        struct peer t = at_level(reached[i].mode, reached[i].level);
+        uint8_t body[LONGEST_BODY], bytes[UINT8_MAX];
+
+        sample_times(&t, reached[i].before);
+        if (from_hex(reached[i].event, body) > 0)
+            play_body(&t, body, bytes);
+        sample_times(&t, reached[i].after);
+        check(gives(&t, 0x0A, reached[i].status) && gives(&t, 0x0E, reached[i].count),
+              "3E=%02X, level %d, %d samples, %s, %d samples: %s and %s", reached[i].mode,
+              reached[i].level, reached[i].before, reached[i].event, reached[i].after,
+              reached[i].status, reached[i].count);
+    }
+}
+
+static void watermark_pins(void)
+{
+    struct peer t = at_level(0x40, 2);
+
+    peer_write(&t, 0x1A, 0x02);
+    sample_x(&t, 0);
+    check(pins_are(&t, PEER_LOW, PEER_LOW), "one frame: INT1 low");
+    sample_x(&t, 0);
+    check(pins_are(&t, PEER_HIGH, PEER_LOW), "two frames: INT1 high");
+    sample_x(&t, 0);
+    check(pins_are(&t, PEER_HIGH, PEER_LOW), "three frames: INT1 stays high");
+    peer_write(&t, 0x1A, 0x40);
+    check(pins_are(&t, PEER_LOW, PEER_HIGH), "the same mapped to INT2");
+    peer_write(&t, 0x1A, 0x42);
+    check(pins_are(&t, PEER_HIGH, PEER_HIGH), "the same mapped to both");
+    peer_write(&t, 0x20, 0x02);
+    check(pins_are(&t, PEER_LOW, PEER_LOW), "active levels 0");
+    check(reads(&t, 0x3F, 7) == 0 && pins_are(&t, PEER_RELEASED, PEER_HIGH), "one left: inactive");
+    sample_x(&t, 0);
+    check(pins_are(&t, PEER_LOW, PEER_LOW), "two again: active");
+    peer_write(&t, 0x1A, 0xA5);
+    check(pins_are(&t, PEER_RELEASED, PEER_HIGH), "data and full alone mapped: inactive");
+    peer_write(&t, 0x17, 0x60);
+    peer_write(&t, 0x1A, 0x26);
+    check(pins_are(&t, PEER_LOW, PEER_HIGH), "watermark or full on INT1, full on INT2");
+    peer_write(&t, 0x1A, 0x42);
+    peer_write(&t, 0x17, 0x30);
+    check(pins_are(&t, PEER_RELEASED, PEER_HIGH), "0x17 bit 6 off: inactive");
+}
+
+static void watermark(void)
+{
+    watermark_of_2();
+    watermark_reached();
+    watermark_pins();
 }
 
 /* ---- the register table, in the words of the rules ---- */
@@ -668,6 +811,19 @@ static void refusals_go_on(void)
            "13 0 08\n14 0 08\npins 0 0\n");
 }
 
+#define SAMPLE_AND_STATUS "00 08 03 00 00 00 00 00 00 00 00 03 02 0A 01"
+#define THREE_AT_LEVEL_2                                                                           \
+    "01 00 03 01 17 40 00 03 01 30 02 00 03 01 1A 02 00 03 01 3E 40" SAMPLE_AND_STATUS             \
+        SAMPLE_AND_STATUS SAMPLE_AND_STATUS
+#define THEIR_ANSWERS "1 0\n2 0\n3 0\n4 0\n5 0\n6 0 00\n7 0\n8 0 40\n9 0\n10 0 40\n"
+
+static void watermark_log(void)
+{
+    replay(THREE_AT_LEVEL_2, THEIR_ANSWERS "pins 1 0\n");
+    replay(THREE_AT_LEVEL_2 "00 03 02 3F 07 00 03 02 0A 01",
+           THEIR_ANSWERS "11 0 01000100010001\n12 0 00\npins 0 0\n");
+}
+
 /* Logs of cycle starts that end around the size of a block; the last line but one tells. */
 static void blocks(void)
 {
@@ -686,6 +842,16 @@ static void blocks(void)
                  replay_command, (int)(rest ? records + 1 : records), rest ? 9 : 0);
         check(system(line) == 0, "log of %d bytes", (int)length);
     }
+}
+
+static void replays(void)
+{
+    printed_log();
+    cut_everywhere();
+    stops();
+    refusals_go_on();
+    watermark_log();
+    blocks();
 }
 
 /* ---- account ---- */
@@ -935,11 +1101,7 @@ int main(int count, char **argument)
     soft_reset();
     data_and_full();
     pins();
-    printed_log();
-    cut_everywhere();
-    stops();
-    refusals_go_on();
-    blocks();
+    replays();
     account_and_twin();
     spring();
     doubts();

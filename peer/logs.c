@@ -527,6 +527,145 @@ static void reset_scene(struct log *l)
     look(l);
 }
 
+/* ---- watermark scene ---- */
+
+struct waiting {
+    int mode;  /* the byte of 0x3E */
+    int level; /* the byte of 0x30 */
+    int held;  /* frames */
+};
+
+static int depth(int mode)
+{
+    return mode >> 6 == 0 ? 1 : 32; /* BYPASS holds one */
+}
+
+static int least(int a, int b)
+{
+    return a < b ? a : b;
+}
+
+/* The count itself or a neighbour, now and then a level where the rule changes. */
+static int level_near(struct log *l, int count)
+{
+    int step = below(l, 3) - 1;
+    int edge = PICK(l, 0, 1, 2, 31, 32, 33, 63);
+    int ignored = one_in(l, 8) ? 0xC0 : 0;
+
+    return (one_in(l, 4) ? edge : (count + step) & 0x3F) | ignored;
+}
+
+/* A count below, at or above the level; for a level above the depth, around the depth. */
+static int count_near_level(struct log *l, const struct waiting *w)
+{
+    int step = below(l, 3) - 1;
+    int count = least(w->level & 0x3F, depth(w->mode)) + step;
+
+    return count > 0 ? count : 0;
+}
+
+static void change_mode(struct log *l, struct waiting *w)
+{
+    w->mode = any_fifo_mode(l);
+    w->held = 0;
+    put_write(l, 0x3E, w->mode);
+}
+
+static void change_level(struct log *l, struct waiting *w, int count)
+{
+    w->level = level_near(l, count);
+    put_write(l, 0x30, w->level);
+}
+
+/* At least one sample, with a look at the status after each of the last three. */
+static void fill_to_level(struct log *l, struct waiting *w)
+{
+    int samples = count_near_level(l, w) - w->held;
+
+    if (samples < 1)
+        samples = 1;
+    while (samples-- > 0) {
+        put_any_sample(l);
+        w->held = least(w->held + 1, depth(w->mode));
+        if (samples < 3 || one_in(l, 8))
+            put_read(l, 0x0A, 1);
+    }
+}
+
+/* At least one frame, in one readout or more, each of which may break off in its last frame. */
+static void drain_to_level(struct log *l, struct waiting *w)
+{
+    int size = w->mode & 3 ? 2 : 6;
+    int frames = w->held - count_near_level(l, w);
+
+    if (frames < 1)
+        frames = 1;
+    while (frames > 0) {
+        int taken = one_in(l, 2) ? frames : 1 + below(l, frames);
+        int unread = one_in(l, 2) ? below(l, size) : 0;
+
+        put_read(l, 0x3F, taken * size - unread);
+        put_read(l, 0x0A, 5);
+        frames -= taken;
+        w->held -= least(taken, w->held);
+    }
+}
+
+static void disturb_watermark(struct log *l, const struct waiting *w)
+{
+    int others = below(l, 4) << 4;
+
+    switch (below(l, 5)) {
+    case 0:
+        put_write(l, 0x17, others);
+        put_read(l, 0x0A, 1);
+        put_write(l, 0x17, 0x40 | others);
+        break;
+    case 1:
+        put_write(l, 0x17, 0x01 | others); /* refused, and must leave bit 6 on */
+        break;
+    case 2:
+        put_write(l, 0x3E, 0xC0 | w->mode); /* refused, and must empty nothing */
+        break;
+    case 3:
+        put_outside_sample(l);
+        break;
+    case 4:
+        put_cycle_start(l);
+        break;
+    }
+}
+
+static void watermark_scene(struct log *l)
+{
+    struct waiting w;
+    int others = below(l, 4) << 4;
+    int aim = PICK(l, 1, 2, 3, 5, 31, 32);
+    int pins = PICK(l, 0x02, 0x40, 0x42);
+    int turns = 5 + below(l, 6);
+
+    change_mode(l, &w);
+    change_level(l, &w, least(aim, depth(w.mode)));
+    put_write(l, 0x17, 0x40 | others);
+    if (one_in(l, 2))
+        put_write(l, 0x1A, pins);
+    while (turns-- > 0) {
+        int choice = below(l, 10);
+
+        if (choice < 4)
+            fill_to_level(l, &w);
+        else if (choice < 6)
+            drain_to_level(l, &w);
+        else if (choice < 8)
+            change_level(l, &w, w.held);
+        else if (choice < 9)
+            change_mode(l, &w);
+        else
+            disturb_watermark(l, &w);
+        put_read(l, 0x0A, 1);
+    }
+}
+
 /* ---- any-motion scene ---- */
 
 struct setup {
@@ -671,7 +810,7 @@ static void data_scene(struct log *l)
 
 /* ---- the last scene: only the pins at the end are printed ---- */
 
-enum { PIN_WRITES = 10 };
+enum { PIN_RECORDS = 11 }; /* beside the samples */
 
 static void set_pins(struct log *l)
 {
@@ -681,7 +820,7 @@ static void set_pins(struct log *l)
         int byte = below(l, 256);
 
         if (one_in(l, 2)) /* few bits, so that one status alone decides a pin */
-            byte = address[i] == 0x1A ? PICK(l, 0x01, 0x02, 0x04, 0x80, 0x40, 0x20, 0x22)
+            byte = address[i] == 0x1A ? PICK(l, 0x01, 0x02, 0x04, 0x80, 0x40, 0x20, 0x22, 0x42)
                                       : PICK(l, 0x00, 0x04, 0xFB);
         put_write(l, address[i], byte);
     }
@@ -690,10 +829,11 @@ static void set_pins(struct log *l)
 static void pins_scene(struct log *l, int fill)
 {
     int mode = any_fifo_mode(l);
-    int enable = below(l, 8) << 4;
+    int enable = one_in(l, 3) ? 0x40 : below(l, 8) << 4;
     int axes = below(l, 8);
     int n = PICK(l, 0, 0, 1, 3);
-    int level = one_in(l, 2) ? fill : 1;
+    int level = level_near(l, least(fill, depth(mode)));
+    int readout = 1 + below(l, 7); /* a frame, mostly, or a part of one */
 
     set_pins(l);
     put_write(l, 0x17, enable);
@@ -705,6 +845,8 @@ static void pins_scene(struct log *l, int fill)
         put_any_sample(l);
     if (one_in(l, 3))
         put_cycle_start(l);
+    if (one_in(l, 3))
+        put_read(l, 0x3F, readout);
 }
 
 /* ---- whole logs ---- */
@@ -712,8 +854,9 @@ static void pins_scene(struct log *l, int fill)
 static void any_scene(struct log *l)
 {
     static void (*const scene[])(struct log *) = {
-        fifo_scene,  fifo_scene,  lock_scene, burst_scene, corner_scene, write_scene, write_scene,
-        sweep_scene, range_scene, data_scene, set_pins,    motion_scene, motion_scene, lack_scene,
+        fifo_scene,   fifo_scene,  watermark_scene, watermark_scene, lock_scene, burst_scene,
+        corner_scene, write_scene, write_scene,     sweep_scene,     lack_scene, range_scene,
+        data_scene,   set_pins,    motion_scene,    motion_scene,
     };
 
     if (one_in(l, 16))
@@ -748,7 +891,7 @@ static void edge_log(uint64_t seed, uint64_t records)
 {
     struct log l = {.state = seed, .undamaged = UINT64_MAX};
     int fill = PICK(&l, 0, 1, 2, 2, 3, 4, 31, 32, 33);
-    uint64_t last = (uint64_t)(fill + PIN_WRITES);
+    uint64_t last = (uint64_t)(fill + PIN_RECORDS);
 
     if (one_in(&l, 32)) { /* a short one, down to the version byte alone */
         uint64_t few = draw(&l) % 8;

@@ -327,17 +327,24 @@ static uint8_t read_msb(struct peer *t, uint8_t address)
     return byte;
 }
 
+static bool watermark_reached(const struct peer *t)
+{
+    unsigned level = t->reg[WATERMARK_LEVEL];
+
+    return level >= 1 && level <= fifo_depth(t) && t->fifo.count >= level;
+}
+
 /* The byte of 0x0A. */
 static uint8_t status_data(const struct peer *t)
 {
-    unsigned enabled = t->reg[ENABLE_DATA], level = t->reg[WATERMARK_LEVEL];
+    unsigned enabled = t->reg[ENABLE_DATA];
     unsigned status = 0;
 
     if (enabled & 0x10 && t->fresh_data)
         status |= DATA;
     if (enabled & 0x20 && t->fifo.count == fifo_depth(t))
         status |= FULL;
-    if (enabled & 0x40 && level != 0 && t->fifo.count == level)
+    if (enabled & 0x40 && watermark_reached(t))
         status |= WATERMARK;
     return (uint8_t)status;
 }

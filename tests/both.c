@@ -27,9 +27,20 @@ static int a_count(void) {
     return below(40) ? near[below(6)] + (int)below(13) - 6 : (int)below(0x10000) - 0x8000;
 }
 
+/* one that the register makes something of, or any */
+static uint8_t a_byte(uint8_t address) {
+    if (address == 0x14) return below(50) ? 0xB5 : 0xB6; /* a soft reset now and then */
+    if (below(3) == 0) return (uint8_t)below(0x100);
+    switch (address) {
+    case 0x17: return (uint8_t)(below(8) << 4);            /* which statuses are enabled */
+    case 0x30: return (uint8_t)below(below(2) ? 5 : 35);   /* a level that few frames reach, or one up to 34 */
+    case 0x3E: return (uint8_t)(below(3) << 6 | below(4)); /* a mode, and the axes of a frame */
+    default: return (uint8_t)below(8);
+    }
+}
+
 static bool write_both(void) {
-    uint8_t address = an_address(), byte = (uint8_t)(below(2) ? below(8) : below(0x100));
-    if (address == 0x14 && below(8)) byte = 0; /* a soft reset now and then */
+    uint8_t address = an_address(), byte = a_byte(address);
     return twin_write(&twin, address, byte) == (uint8_t)peer_write(&peer, address, byte);
 }
 

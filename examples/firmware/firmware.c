@@ -49,6 +49,10 @@ static void samples(int from, int n) {
     }
 }
 
+static void show_int1(void) {
+    printf("INT1 %s\n", twin_int1(&chip) == TWIN_HIGH ? "high: four frames wait, or more" : "low");
+}
+
 int main(void) {
     uint8_t answer, two[2];
     bus_write(RANGE, 0x08); /* too early */
@@ -57,9 +61,10 @@ int main(void) {
     if (!start()) return printf("the start-up failed\n"), 1;
     bus_write(RANGE, 0x07); /* a code that the sheet does not define */
     samples(1, 4);
-    printf("INT1 %s\n", twin_int1(&chip) == TWIN_HIGH ? "high: four frames wait" : "low");
+    show_int1();
     drain();
     samples(5, 40); /* the firmware is late */
+    show_int1();
     drain();
     bus_read(FIFO_STATUS, NULL, 1);
     bus_read(FIFO_CONFIG, two, 2);

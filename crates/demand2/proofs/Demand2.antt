@@ -53,7 +53,7 @@ module _ (es : List Event) (n : ℕ) (some : 1 ≤ n) (few : n ≤ 192) where
   unfolding readAnswer
   ok = rw taken
 
-  out : readsOut 0x3F n ≡ true
+  pub out : readsOut 0x3F n ≡ true
   unfolding readsOut
   out = rw ok
 

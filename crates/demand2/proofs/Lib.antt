@@ -1,2 +1,2 @@
 pub mod Demand2
-pub mod Said
+pub mod Watermark

@@ -38,6 +38,14 @@ eachBit = 0x80 ∷ 0x40 ∷ 0x20 ∷ 0x10 ∷ 0x08 ∷ 0x04 ∷ 0x02 ∷ 0x01 �
 abbrev latchTimes : List ℕ
 latchTimes = 0 ∷ 14 ∷ 14 ∷ 14 ∷ 14 ∷ 14 ∷ 14 ∷ 0 ∷ 0 ∷ 14 ∷ 14 ∷ 14 ∷ 14 ∷ 14 ∷ 14 ∷ 0 ∷ []
 
+-- the watermark on, with a level, in a mode
+abbrev levelIn : ℕ → ℕ → List Step
+levelIn level mode = write 0x17 0x40 ⇒ answer 0 ∷ write 0x30 level ⇒ answer 0 ∷ write 0x3E mode ⇒ answer 0 ∷ []
+
+-- what 0x0A reads
+abbrev status : ℕ → List Step
+status byte = read 0x0A 1 ⇒ bytes (byte ∷ []) ∷ []
+
 -- each row starts at a fresh device
 abbrev pub rows : List (List Step)
 rows =
@@ -88,4 +96,19 @@ rows =
     upFrom (λ nibble. nibble) 0x00 16 at 0x21 give latchTimes leave 0x0F ∷
     upFrom (λ nibble. nibble) 0x80 16 at 0x21 give latchTimes leave 0x0F ∷
     eachBit at 0x21 give (0 ∷ 0 ∷ 0 ∷ 0 ∷ 0 ∷ 14 ∷ 14 ∷ 14 ∷ []) leave 0x08 ∷
+    -- Q-2 "The watermark case in 01 becomes 0, 1, 1": level 2 with one, two, three frames
+    (levelIn 2 0x40 ++ samples 1 ++ status 0x00 ++ samples 1 ++ status 0x40 ++ samples 1 ++ status 0x40) ∷
+    -- Q-2 "at or above a level from 1 to 32": level 32 with 31, 32 and one sample more, in FIFO and in STREAM mode
+    (levelIn 32 0x40 ++ samples 31 ++ status 0x00 ++ samples 1 ++ status 0x40 ++ samples 1 ++ status 0x40) ∷
+    (levelIn 32 0x80 ++ samples 31 ++ status 0x00 ++ samples 1 ++ status 0x40 ++ samples 1 ++ status 0x40) ∷
+    -- Q-2 "Level 0 and levels above the depth never fire": level 0 with no frame, one, and 32 of 33 samples; level 33 with 32 frames
+    (levelIn 0 0x40 ++ status 0x00 ++ samples 1 ++ status 0x00 ++ samples 32 ++ status 0x00) ∷
+    (levelIn 33 0x40 ++ samples 32 ++ status 0x00 ++ samples 1 ++ status 0x00) ∷
+    (levelIn 33 0x80 ++ samples 32 ++ status 0x00 ++ samples 1 ++ status 0x00) ∷
+    -- .. and in BYPASS, whose depth is 1, level 1 with no frame, one, and one of two samples; level 2
+    (levelIn 1 0x00 ++ status 0x00 ++ samples 1 ++ status 0x40 ++ samples 1 ++ status 0x40) ∷
+    (levelIn 2 0x00 ++ samples 1 ++ status 0x00 ++ samples 1 ++ status 0x00) ∷
+    -- Q-2: a readout that leaves the level, and one of a single byte that brings the count below it
+    (levelIn 2 0x40 ++ samples 3 ++ (read 0x3F 6 ⇒ bytes (0x11 ∷ 0x00 ∷ 0x01 ∷ 0x00 ∷ 0x01 ∷ 0x00 ∷ []) ∷ status 0x40)
+    ++ (read 0x3F 1 ⇒ bytes (0x21 ∷ []) ∷ status 0x00)) ∷
     []

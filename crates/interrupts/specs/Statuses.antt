@@ -1,8 +1,8 @@
 -- 01, "Interrupts and pins": when each status is 1.
 use Prim.Native.Nat.{ℕ}
-use mathlib.Core.Bool.{Bool, not}
+use mathlib.Core.Bool.{Bool}
 use mathlib.Core.List.{List}
-use lib.Dec.{eqb}
+use lib.Dec.{eqb, leb}
 use lib.ListN.{getD}
 use Rattle.laws.specs.Choice.{both}
 use Rattle.laws.specs.Bits.{bit}
@@ -10,9 +10,10 @@ use Rattle.codes.specs.Addresses.{enablesAt, levelAt}
 use Rattle.interrupts.specs.declared.Statuses.{Statuses}
 use Rattle.interrupts.specs.declared.Sources.{Sources}
 
--- "the level in 0x30 is not 0 and the count equals it", of the count and the level
-abbrev pub atLevel : ℕ → ℕ → Bool
-atLevel count level = both (not (eqb level 0)) (eqb count level)
+-- Q-2: "the count is at or above a level from 1 to 32. Level 0 and levels above the depth never fire", of the count, the depth and
+-- the level
+abbrev pub reached : ℕ → ℕ → ℕ → Bool
+reached count depth level = both (both (leb 1 level) (leb level depth)) (leb level count)
 
 -- the statuses, from the registers and what else they are made of
 unfoldable pub statusesOf : List ℕ → Sources → Statuses
@@ -22,8 +23,8 @@ statusesOf regs s =
       motion = s .moved;
       -- data: "0x17 bit 4 is 1 and an accepted sample came since the last cycle start or reset"
       ready = both (bit 4 enables) (s .came);
-      -- "0x17 bit 6 is 1, the level in 0x30 is not 0 and the count equals it"
-      watermark = both (bit 6 enables) (atLevel (s .count) (getD regs levelAt 0));
+      -- "0x17 bit 6 is 1", and the level is "the level in 0x30"
+      watermark = both (bit 6 enables) (reached (s .count) (s .depth) (getD regs levelAt 0));
       -- "0x17 bit 5 is 1 and the count equals the depth"
       full = both (bit 5 enables) (eqb (s .count) (s .depth));
     }

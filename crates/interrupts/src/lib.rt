@@ -43,11 +43,12 @@ pub struct Pins {
     pub int2: Level,
 }
 
-// Whether the count is at a level that is not 0.
-fn at_level(count: usize, level: u8) -> bool
-    ensures { λ r. ⌜ r ≡ statuses.atLevel count level ⌝ }
+// Whether the count has reached a level from 1 to the depth.
+fn reached(count: usize, depth: usize, level: u8) -> bool
+    ensures { λ r. ⌜ r ≡ statuses.reached count depth level ⌝ }
 {
-    both(level != 0, count == level as usize)
+    let level = level as usize;
+    both(both(1 <= level, level <= depth), level <= count)
 }
 
 pub fn statuses_of(regs: &[u8; 64], sources: Sources) -> Statuses
@@ -57,7 +58,10 @@ pub fn statuses_of(regs: &[u8; 64], sources: Sources) -> Statuses
     Statuses {
         motion: sources.moved,
         ready: both(bit(enables, 4), sources.came),
-        watermark: both(bit(enables, 6), at_level(sources.count, regs[LEVEL_AT])),
+        watermark: both(
+            bit(enables, 6),
+            reached(sources.count, sources.depth, regs[LEVEL_AT]),
+        ),
         full: both(bit(enables, 5), sources.count == sources.depth),
     }
 }

@@ -19,24 +19,26 @@ use Rattle.rules.specs.Stored.{ByteWrites}
 use Rattle.rules.specs.Rules.{ruled, toInt1, toInt2, someMapped, Leveled}
 use Rattle.rules.proofs.Reading.{elsewhereIn, statusesNow, byte-ruled}
 
+-- the three statuses of 0x0A stand in their bits
+pub data-apart : (p q r : Bool) → let b = worth 128 p + (worth 64 q + (worth 32 r + 0)) in (bit 7 b ≡ p) × (bit 6 b ≡ q) × (bit 5 b ≡ r)
+unfolding bit
+data-apart true true true = (refl, refl, refl)
+data-apart true true false = (refl, refl, refl)
+data-apart true false true = (refl, refl, refl)
+data-apart true false false = (refl, refl, refl)
+data-apart false true true = (refl, refl, refl)
+data-apart false true false = (refl, refl, refl)
+data-apart false false true = (refl, refl, refl)
+data-apart false false false = (refl, refl, refl)
+
 -- each status stands in its bit
 statuses-apart : (s : Statuses) → (bit 2 (statusByte 0x09 s) ≡ s .motion) × (bit 7 (statusByte 0x0A s) ≡ s .ready) × (bit 6 (statusByte 0x0A s) ≡ s .watermark) × (bit 5 (statusByte 0x0A s) ≡ s .full)
 unfolding bit statusByte
-statuses-apart s = let t = three (s .ready) (s .watermark) (s .full) in (alone (s .motion), t .0, t .1, t .2)
+statuses-apart s = let t = data-apart (s .ready) (s .watermark) (s .full) in (alone (s .motion), t .0, t .1, t .2)
   where
     alone : (m : Bool) → bit 2 (worth 4 m + 0) ≡ m
     alone true = refl
     alone false = refl
-
-    three : (p q r : Bool) → (bit 7 (worth 128 p + (worth 64 q + (worth 32 r + 0))) ≡ p) × (bit 6 (worth 128 p + (worth 64 q + (worth 32 r + 0))) ≡ q) × (bit 5 (worth 128 p + (worth 64 q + (worth 32 r + 0))) ≡ r)
-    three true true true = (refl, refl, refl)
-    three true true false = (refl, refl, refl)
-    three true false true = (refl, refl, refl)
-    three true false false = (refl, refl, refl)
-    three false true true = (refl, refl, refl)
-    three false true false = (refl, refl, refl)
-    three false false true = (refl, refl, refl)
-    three false false false = (refl, refl, refl)
 
 leveled : (active high opendrive : Bool) → Leveled active high opendrive (levelOf active high opendrive)
 leveled active high opendrive = record {

@@ -2,13 +2,13 @@
 -- Assumes nothing.
 use Prim.Native.Nat.{ℕ, zero, suc, _+_, _/_, _%_, _^_, _<_, _≤_}
 use mathlib.Core.Bool.{Bool, true, false}
-use mathlib.Core.Path.{_≡_, refl, ap, _∙_}
+use mathlib.Core.Path.{_≡_, refl, sym, ap, _∙_}
 use mathlib.Core.List.{List, [], _∷_}
 use native.Mathlib.Omega.{arith}
 use native.Mathlib.Nat.{add-zero}
-use lib.Dec.{eqb}
-use borrow.Author.Tests.{lt-ltb, eq-eqb, ne-eqb}
-use Rattle.laws.specs.Choice.{pick}
+use lib.Dec.{eqb, leb}
+use borrow.Author.Tests.{lt-ltb, eq-eqb, ne-eqb, le-leb, leb-true}
+use Rattle.laws.specs.Choice.{pick, both}
 use Rattle.laws.specs.Bits.{bit, worth}
 use Rattle.codes.specs.Addresses.{enablesAt, levelAt, controlAt}
 use Rattle.codes.specs.Mode.{modeOf, isReservedMode}
@@ -20,7 +20,7 @@ use Rattle.fifo.proofs.Store.{count-few}
 use Rattle.alarm.specs.Alarm.{Marked}
 use Rattle.alarm.proofs.Laws.{marked-small, marks-whole}
 use Rattle.alarm.proofs.Laws as alarm
-use Rattle.interrupts.specs.Statuses.{statusesOf}
+use Rattle.interrupts.specs.Statuses.{reached, statusesOf}
 use Rattle.interrupts.specs.Lines.{statusByte}
 use Rattle.interrupts.specs.declared.Statuses.{Statuses}
 use Rattle.detectors.specs.Detectors.{motionStatus}
@@ -65,7 +65,22 @@ depth-is b = go (eqb (b / 64) 0b00) (eqb (b / 64) 0b01) (eqb (b / 64) 0b10)
     go false false true h = refl
     go false false false h = cc
 
-in-order : (p q r : ℕ) → p + (q + (r + 0)) ≡ p + q + r
+-- Q-2: where no more are held than the depth, and the depth is at most 32, "a level from 1 to 32" and one up to the depth are the same
+reached-is : (count depth level : ℕ) → count ≤ depth → depth ≤ 32 → reached count depth level ≡ both (both (leb 1 level) (leb level 32)) (leb level count)
+reached-is count depth level few most = go (leb level count) refl
+  where
+    ends-false : (p q : Bool) → both (both p q) false ≡ false
+    ends-false true true = refl
+    ends-false true false = refl
+    ends-false false q = refl
+
+    go : (t : Bool) → leb level count ≡ t → both (both (leb 1 level) (leb level depth)) t ≡ both (both (leb 1 level) (leb level 32)) t
+    go true e =
+        let l = leb-true level count e in
+        rw (le-leb level depth (omega arith), le-leb level 32 (omega arith))
+    go false e = ends-false (leb 1 level) (leb level depth) ∙ sym (ends-false (leb 1 level) (leb level 32))
+
+pub in-order : (p q r : ℕ) → p + (q + (r + 0)) ≡ p + q + r
 in-order p q r = omega arith
 
 module _ (es : List Event) where
@@ -77,6 +92,14 @@ module _ (es : List Event) where
 
   few-held : countAt depth (after es .fifo) ≡ after es .fifo .count
   few-held = count-few deep (modeOf (reg (after es) controlAt)) (after es .fifo) (proper es .few)
+
+  reached-here :
+      let level = reg (after es) levelAt in
+      reached (after es .fifo .count) (depthIn depth (modeOf (reg (after es) controlAt))) level
+      ≡ both (both (leb 1 level) (leb level 32)) (leb level (after es .fifo .count))
+  reached-here =
+      let mode = modeOf (reg (after es) controlAt) in
+      reached-is (after es .fifo .count) (depthIn depth mode) (reg (after es) levelAt) (proper es .few) (depth-most deep mode)
 
   mark-small : after es .detectors .motion .alarm .mark < 8
   mark-small = marked-small (after es .detectors .motion .alarm) (proper es .marked)
@@ -93,7 +116,7 @@ module _ (es : List Event) where
     data-byte : statusByte 0x0A statusesNow ≡ worth 128 (dataStatus w es) + worth 64 (watermarkStatus w es) + worth 32 (fullStatus w es)
     unfolding statusByte statusesOf
     data-byte =
-        rw (few-held, came-is es, bank-is es, depth-is (stored es controlAt) (mode-known es), stored-is es b enablesAt (omega arith), stored-is es b levelAt (omega arith), stored-is es b controlAt (omega arith))
+        rw (few-held, reached-here, came-is es, bank-is es, depth-is (stored es controlAt) (mode-known es), stored-is es b enablesAt (omega arith), stored-is es b levelAt (omega arith), stored-is es b controlAt (omega arith))
         (in-order (worth 128 (dataStatus w es)) (worth 64 (watermarkStatus w es)) (worth 32 (fullStatus w es)))
 
     pub byte-ruled : (a : ℕ) → a < 64 → singleByte (after es) a ≡ ruled (elsewhereIn (after es)) es a

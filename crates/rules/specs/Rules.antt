@@ -4,7 +4,7 @@ use Prim.Native.Nat.{ℕ, zero, suc, _+_, _/_}
 use mathlib.Core.Bool.{Bool, true, false, not}
 use mathlib.Core.List.{List, [], _∷_}
 use mathlib.Core.Path.{_≡_}
-use lib.Dec.{eqb}
+use lib.Dec.{eqb, leb}
 use Rattle.laws.specs.Choice.{pick, both, either}
 use Rattle.laws.specs.Lists.{isIn}
 use Rattle.laws.specs.Bits.{bit, worth}
@@ -46,9 +46,11 @@ module _ (w : Elsewhere) (es : List Event) where
   abbrev pub fullStatus : Bool
   fullStatus = both (bit 5 (byteBy es 0x17)) (eqb (w .count) (depthBy es))
 
-  -- "0x17 bit 6 is 1, the level in 0x30 is not 0 and the count equals it"
+  -- "0x17 bit 6 is 1" and, by Q-2, "the count is at or above a level from 1 to 32"
   abbrev pub watermarkStatus : Bool
-  watermarkStatus = both (bit 6 (byteBy es 0x17)) (both (not (eqb (byteBy es 0x30) 0)) (eqb (w .count) (byteBy es 0x30)))
+  watermarkStatus =
+      let level = byteBy es 0x30 in
+      both (bit 6 (byteBy es 0x17)) (both (both (leb 1 level) (leb level 32)) (leb level (w .count)))
 
   -- ---- the byte that an address below 0x3F reads
   unfoldable pub ruled : ℕ → ℕ

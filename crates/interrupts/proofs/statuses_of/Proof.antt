@@ -22,4 +22,4 @@ statuses-of-spec =
     let watermark = full .before in
     let level = watermark .before in
     let ready = level .before .before .before in
-    simp (c .both3 .ensures, full .bit3 .ensures, watermark .both2 .ensures, level .at-level .ensures, level .before .before .bit2 .ensures, ready .both .ensures, ready .before .bit .ensures)))
+    simp (c .both3 .ensures, full .bit3 .ensures, watermark .both2 .ensures, level .reached .ensures, level .before .before .bit2 .ensures, ready .both .ensures, ready .before .bit .ensures)))

@@ -1,0 +1,252 @@
+-- Q-2, "Watermark means reached": whatever the events, the device meets it.
+-- Assumes nothing.
+use Prim.Native.Nat.{ℕ, suc, _+_, _-_, _/_, _≤_, min}
+use mathlib.Core.Bool.{Bool, true, false, not}
+use mathlib.Core.List.{List, [], _∷_, _++_}
+use mathlib.Core.Logic.{_↔_}
+use mathlib.Core.Path.{_≡_, refl, sym, ap, _∙_}
+use native.Mathlib.Omega.{arith}
+use lib.Dec.{eqb, leb}
+use lib.ListN.{getD}
+use borrow.Author.Tests.{leb-true, le-leb, eqb-true, eq-eqb}
+use Rattle.laws.specs.Bits.{bit, worth}
+use Rattle.laws.specs.Choice.{pick, both}
+use Rattle.laws.specs.Lists.{isIn}
+use Rattle.laws.proofs.Finite.{left, right, picked}
+use Rattle.codes.specs.Addresses.{controlAt}
+use Rattle.codes.specs.Axes.{axesOf}
+use Rattle.fifo.specs.Ledger as fifo
+use Rattle.fifo.specs.declared.Setting.{Setting}
+use Rattle.registers.specs.Answers.{accepted}
+use Rattle.registers.specs.Deeds.{clears}
+use Rattle.device.specs.Sample.{sampleAnswer}
+use Rattle.events.specs.Event.{Event, powerUp, write, read, sample, cycle, Given}
+use Rattle.history.specs.Chip.{Said, sampled, readOut, nothing, onto, since}
+use Rattle.history.specs.Counts.{begun, heldAfter}
+use Rattle.history.specs.History.{accelerometer, readsOut, control, setting, frame, saysHere}
+use Rattle.history.proofs.Chip.{isCleared}
+use Rattle.history.proofs.Conserve.{demand3, lawful, over-clears-here}
+use Rattle.history.proofs.Told.{told}
+use Rattle.history.proofs.Whole.{next-held}
+use Rattle.rules.specs.Data.{isSample}
+use Rattle.rules.specs.Rules.{depthBy, dataStatus, fullStatus, watermarkStatus, ruled}
+use Rattle.rules.specs.Stored.{ByteWrites, byteBy}
+use Rattle.rules.proofs.Channels.{sample-is}
+use Rattle.rules.proofs.Pins.{data-apart}
+use Rattle.rules.proofs.Reading.{depth-is, in-order}
+use Rattle.rules.proofs.Registers.{registers}
+use Rattle.rules.proofs.Stored.{stored-is}
+use Rattle.demand2.specs.Demand2.{elsewhere}
+use Rattle.demand2.specs.Watermark.{seen, level, held, frameSize, Reaches, goesOn, goOn, arrived, asks, asked, Watermark}
+use Rattle.demand2.proofs.Demand2.{demand2, out}
+
+-- ---- tests and what they say
+tests : (enable : Bool) (level most many : ℕ)
+    → (both enable (both (both (leb 1 level) (leb level most)) (leb level many)) ≡ true) ↔ ((enable ≡ true) × (1 ≤ level) × (level ≤ most) × (level ≤ many))
+tests enable level most many = (apart, λ h. rw (h .0, le-leb 1 level (h .1), le-leb level most (h .2), le-leb level many (h .3)))
+  where
+    apart : both enable (both (both (leb 1 level) (leb level most)) (leb level many)) ≡ true → (enable ≡ true) × (1 ≤ level) × (level ≤ most) × (level ≤ many)
+    apart h =
+        let e = left enable (both (both (leb 1 level) (leb level most)) (leb level many)) h in
+        let r = right enable (both (both (leb 1 level) (leb level most)) (leb level many)) h in
+        let bounds = left (both (leb 1 level) (leb level most)) (leb level many) r in
+        (e, leb-true 1 level (left (leb 1 level) (leb level most) bounds), leb-true level most (right (leb 1 level) (leb level most) bounds), leb-true level many (right (both (leb 1 level) (leb level most)) (leb level many) r))
+
+not-seen : (t : Bool) → (t ≡ true → ⊥) → t ≡ false
+not-seen true h = absurd (h refl)
+not-seen false h = refl
+
+-- ---- after any events
+module _ (es : List Event) (b : ByteWrites es) where
+  seen-is : seen es ≡ watermarkStatus (elsewhere es) es
+  unfolding ruled
+  seen-is =
+      let w = elsewhere es in
+      ap (λ (g : Given). bit 6 (getD (g .bytes) 0 0)) (demand2 es b .below 0x0A 1 refl)
+      ∙ ap (bit 6) (sym (in-order (worth 128 (dataStatus w es)) (worth 64 (watermarkStatus w es)) (worth 32 (fullStatus w es))))
+      ∙ data-apart (dataStatus w es) (watermarkStatus w es) (fullStatus w es) .1
+
+  reached-here : (seen es ≡ true) ↔ Reaches es 32 (held es)
+  unfolding elsewhere
+  reached-here = rw (seen-is) (tests (bit 6 (byteBy es 0x17)) (level es) 32 (held es))
+
+  -- "Depth is 32 in FIFO and STREAM, 1 in BYPASS"; "The held frames never exceed the depth"
+  control-is : control es ≡ byteBy es 0x3E
+  control-is = sym (told es .regs .control) ∙ registers es controlAt ∙ stored-is es b controlAt (omega arith)
+
+  deep : setting es .depth ≡ depthBy es
+  deep = depth-is (control es) (told es .mode) ∙ rw control-is
+
+  few : held es ≤ depthBy es
+  few = omega (arith, demand3 es .demand .few, deep)
+
+-- ---- an event that leaves the settings alone
+abbrev four : List ℕ
+four = 0x14 ∷ 0x17 ∷ 0x30 ∷ 0x3E ∷ []
+
+not-written : (a : ℕ) → not (isIn four a) ≡ true → (c : ℕ) → isIn four c ≡ true → eqb a c ≡ false
+not-written a on c m = go (eqb a c) refl
+  where
+    go : (t : Bool) → eqb a c ≡ t → t ≡ false
+    go true e = let z : false ≡ true = rw (eqb-true a c e, m) at on in cc
+    go false e = refl
+
+clears-not : (a byte : ℕ) → not (isIn four a) ≡ true → clears a byte ≡ false
+unfolding clears
+clears-not a byte on = rw (not-written a on 0x14 refl, not-written a on 0x3E refl)
+
+none-less : (n : ℕ) → n ≡ n - 0
+none-less n = omega arith
+
+module _ (es : List Event) where
+  same-byte : (e : Event) → goesOn e ≡ true → (c : ℕ) → isIn four c ≡ true → byteBy (e ∷ es) c ≡ byteBy es c
+  unfolding byteBy
+  same-byte powerUp on c m = cc
+  same-byte (write a byte) on c m = rw (not-written a on c m, not-written a on 0x14 refl)
+  same-byte (read a n) on c m = refl
+  same-byte (sample x y z t) on c m = refl
+  same-byte cycle on c m = refl
+
+  goes-on : (e : Event) → goesOn e ≡ true → isCleared (saysHere es e) ≡ false
+  unfolding saysHere
+  goes-on powerUp on = cc
+  goes-on (write a byte) on = rw (clears-not a byte on)
+  goes-on (read a n) on = picked (λ (w : Said). isCleared w ≡ false) (readsOut a n) refl refl
+  goes-on (sample x y z t) on = picked (λ (w : Said). isCleared w ≡ false) (accepted (sampleAnswer x y z)) refl refl
+  goes-on cycle on = refl
+
+  -- how many are held with one event more, by what it says
+  held-said : (e : Event) → goesOn e ≡ true → (s : Setting) (es' : List (fifo.Event (List ℕ)))
+      → heldAfter s (onto (saysHere es e) es') ≡ pick (isSample e) (min (s .depth) (suc (heldAfter s es'))) (heldAfter s es' - asks (s .size) e)
+  unfolding saysHere heldAfter
+  held-said powerUp on s es' = cc
+  held-said (write a byte) on s es' = rw (clears-not a byte on) (none-less (heldAfter s es'))
+  held-said (read a n) on s es' = go (readsOut a n)
+    where
+      go : (t : Bool) → heldAfter s (onto (pick t (readOut n) nothing) es') ≡ heldAfter s es' - pick t (begun (s .size) n) 0
+      go true = refl
+      go false = none-less (heldAfter s es')
+  held-said (sample x y z t) on s es' = rw (sample-is x y z t) (go (isSample (sample x y z t)))
+    where
+      go : (t : Bool) → heldAfter s (onto (pick t (sampled (frame (axesOf (control es)) x y z)) nothing) es') ≡ pick t (min (s .depth) (suc (heldAfter s es'))) (heldAfter s es' - 0)
+      go true = refl
+      go false = none-less (heldAfter s es')
+  held-said cycle on s es' = none-less (heldAfter s es')
+
+  module _ (e : Event) (on : goesOn e ≡ true) where
+    same-setting : setting (e ∷ es) ≡ setting es
+    same-setting = lawful .keeps es e (goes-on e on)
+
+    held-next : held (e ∷ es) ≡ pick (isSample e) (min (setting es .depth) (suc (held es))) (held es - asks (frameSize es) e)
+    held-next =
+        sym (over-clears-here (e ∷ es) .held)
+        ∙ next-held accelerometer es e (saysHere es e) refl (setting es) same-setting
+        ∙ held-said e on (setting es) (since accelerometer es)
+        ∙ rw (over-clears-here es .held)
+
+-- ---- any number of them
+record Later (es later : List Event) : Type 0 where
+  enable : byteBy (later ++ es) 0x17 ≡ byteBy es 0x17
+  same : level (later ++ es) ≡ level es
+  set : setting (later ++ es) ≡ setting es
+  -- no more are gone than the readouts asked for
+  least : held es ≤ held (later ++ es) + asked (frameSize es) later
+  -- where they asked for none, all that the depth allows are held
+  many : asked (frameSize es) later ≡ 0 → held (later ++ es) ≡ min (setting es .depth) (held es + arrived later)
+
+module _ (es later : List Event) (i : Later es later) (e : Event) (on : goesOn e ≡ true) where
+  abbrev h : List Event
+  h = later ++ es
+
+  next-is : held (e ∷ h) ≡ pick (isSample e) (min (setting es .depth) (suc (held h))) (held h - asks (frameSize es) e)
+  next-is = held-next h e on ∙ ap (λ (s : Setting). pick (isSample e) (min (s .depth) (suc (held h))) (held h - asks (s .size) e)) (i .set)
+
+  fits : held h ≤ setting es .depth
+  fits = omega (arith, demand3 h .demand .few, ap (λ (s : Setting). s .depth) (i .set))
+
+  least-next : held es ≤ held (e ∷ h) + (asks (frameSize es) e + asked (frameSize es) later)
+  least-next = go (isSample e) next-is
+    where
+      go : (t : Bool) → held (e ∷ h) ≡ pick t (min (setting es .depth) (suc (held h))) (held h - asks (frameSize es) e)
+          → held es ≤ held (e ∷ h) + (asks (frameSize es) e + asked (frameSize es) later)
+      go true q = omega (arith, q, i .least, fits)
+      go false q = omega (arith, q, i .least)
+
+  many-next : asks (frameSize es) e + asked (frameSize es) later ≡ 0 → held (e ∷ h) ≡ min (setting es .depth) (held es + (worth 1 (isSample e) + arrived later))
+  many-next none =
+      let m = i .many (omega arith) in
+      go m (isSample e) next-is
+    where
+      go : held h ≡ min (setting es .depth) (held es + arrived later) → (t : Bool)
+          → held (e ∷ h) ≡ pick t (min (setting es .depth) (suc (held h))) (held h - asks (frameSize es) e)
+          → held (e ∷ h) ≡ min (setting es .depth) (held es + (worth 1 t + arrived later))
+      go m true q = omega (arith, q, m)
+      go m false q = omega (arith, q, m, none)
+
+  next-later : Later es (e ∷ later)
+  next-later = record {
+    enable = same-byte h e on 0x17 refl ∙ i .enable;
+    same = same-byte h e on 0x30 refl ∙ i .same;
+    set = same-setting h e on ∙ i .set;
+    least = least-next;
+    many = many-next;
+  }
+
+later-is : (es later : List Event) → goOn later ≡ true → Later es later
+later-is es [] on = record { enable = refl; same = refl; set = refl; least = omega arith; many = λ none. omega (arith, demand3 es .demand .few) }
+later-is es (e ∷ later) on = next-later es later (later-is es later (right (goesOn e) (goOn later) on)) e (left (goesOn e) (goOn later) on)
+
+bytes-joined : (later es : List Event) → ByteWrites later → ByteWrites es → ByteWrites (later ++ es)
+bytes-joined [] es c b = b
+bytes-joined (powerUp ∷ later) es c b = bytes-joined later es c b
+bytes-joined (write a byte ∷ later) es c b = (c .0, bytes-joined later es (c .1) b)
+bytes-joined (read a n ∷ later) es c b = bytes-joined later es c b
+bytes-joined (sample x y z t ∷ later) es c b = bytes-joined later es c b
+bytes-joined (cycle ∷ later) es c b = bytes-joined later es c b
+
+module _ (es : List Event) (b : ByteWrites es) where
+  depth-32 : depthBy es ≤ 32
+  depth-32 = go (eqb (byteBy es 0x3E / 64) 0b00)
+    where
+      go : (t : Bool) → pick t 1 32 ≤ 32
+      go true = omega arith
+      go false = omega arith
+
+  module _ (later : List Event) (c : ByteWrites later) (on : goOn later ≡ true) where
+    seen-later : (seen (later ++ es) ≡ true) ↔ Reaches es 32 (held (later ++ es))
+    seen-later =
+        let i = later-is es later on in
+        rw (i .enable, i .same) at (reached-here (later ++ es) (bytes-joined later es c b))
+
+    late-here : asked (frameSize es) later ≡ 0 → (seen (later ++ es) ≡ true) ↔ Reaches es (depthBy es) (held es + arrived later)
+    late-here none =
+        let m = later-is es later on .many none in
+        let r = seen-later in (
+          λ s. let p = r .0 s in (p .0, p .1, omega (arith, p .3, m, deep es b), omega (arith, p .3, m)),
+          λ p. r .1 (p .0, p .1, omega (arith, p .2, depth-32), omega (arith, p .2, p .3, m, deep es b)),
+        )
+
+    lasts-here : level es + asked (frameSize es) later ≤ held es → seen es ≡ true → seen (later ++ es) ≡ true
+    lasts-here enough s =
+        let p = reached-here es b .0 s in
+        seen-later .1 (p .0, p .1, p .2, omega (arith, enough, later-is es later on .least))
+
+  ends-here : (n : ℕ) → 1 ≤ n → n ≤ 192 → (seen (read 0x3F n ∷ es) ≡ true) ↔ Reaches es 32 (held es - begun (frameSize es) n)
+  unfolding byteBy
+  ends-here n some most =
+      let q : held (read 0x3F n ∷ es) ≡ held es - begun (frameSize es) n = held-next es (read 0x3F n) refl ∙ rw (out es n some most) in
+      rw q at (reached-here (read 0x3F n ∷ es) b)
+
+  above-here : (top : ℕ) → depthBy es ≡ top → suc top ≤ level es → seen es ≡ false
+  above-here top d high = not-seen (seen es) (λ s. omega (arith, reached-here es b .0 s .3, few es b))
+
+pub watermark : (es : List Event) → ByteWrites es → Watermark es
+watermark es b = record {
+  reached = reached-here es b;
+  level-0 = λ z. not-seen (seen es) (λ s. omega (arith, reached-here es b .0 s .1));
+  above-1 = λ bypass high. above-here es b 1 (rw (eq-eqb (byteBy es 0x3E / 64) 0b00 bypass)) high;
+  above-32 = λ high. not-seen (seen es) (λ s. omega (arith, reached-here es b .0 s .2));
+  late = late-here es b;
+  lasts = lasts-here es b;
+  ends = ends-here es b;
+}
