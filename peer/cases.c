@@ -274,34 +274,39 @@ static void watermark_reached(void)
     }
 }
 
+/* Level 2 in FIFO mode: the pins after each event, as the body of a record. */
+#define ONE_SAMPLE "03 00 00 00 00 00 00 00"
+static const struct {
+    const char *event;
+    enum peer_level int1, int2;
+} watched[] = {
+    {"01 1A 02", PEER_LOW, PEER_LOW},       /* mapped to INT1 */
+    {ONE_SAMPLE, PEER_LOW, PEER_LOW},       /* one frame */
+    {ONE_SAMPLE, PEER_HIGH, PEER_LOW},      /* two */
+    {ONE_SAMPLE, PEER_HIGH, PEER_LOW},      /* three */
+    {"01 1A 40", PEER_LOW, PEER_HIGH},      /* mapped to INT2 */
+    {"01 1A 42", PEER_HIGH, PEER_HIGH},     /* to both */
+    {"01 20 02", PEER_LOW, PEER_LOW},       /* active levels 0, INT1 open-drive */
+    {"02 3F 07", PEER_RELEASED, PEER_HIGH}, /* one frame left */
+    {ONE_SAMPLE, PEER_LOW, PEER_LOW},       /* two again */
+    {"01 1A A5", PEER_RELEASED, PEER_HIGH}, /* data and full alone mapped */
+    {"01 17 60", PEER_RELEASED, PEER_HIGH}, /* full enabled too, and not full */
+    {"01 1A 26", PEER_LOW, PEER_HIGH},      /* watermark and full to INT1, full to INT2 */
+    {"01 1A 42", PEER_LOW, PEER_LOW},       /* watermark to both */
+    {"01 17 30", PEER_RELEASED, PEER_HIGH}, /* 0x17 bit 6 off */
+};
+
 static void watermark_pins(void)
 {
     struct peer t = at_level(0x40, 2);
 
-    peer_write(&t, 0x1A, 0x02);
-    sample_x(&t, 0);
-    check(pins_are(&t, PEER_LOW, PEER_LOW), "one frame: INT1 low");
-    sample_x(&t, 0);
-    check(pins_are(&t, PEER_HIGH, PEER_LOW), "two frames: INT1 high");
-    sample_x(&t, 0);
-    check(pins_are(&t, PEER_HIGH, PEER_LOW), "three frames: INT1 stays high");
-    peer_write(&t, 0x1A, 0x40);
-    check(pins_are(&t, PEER_LOW, PEER_HIGH), "the same mapped to INT2");
-    peer_write(&t, 0x1A, 0x42);
-    check(pins_are(&t, PEER_HIGH, PEER_HIGH), "the same mapped to both");
-    peer_write(&t, 0x20, 0x02);
-    check(pins_are(&t, PEER_LOW, PEER_LOW), "active levels 0");
-    check(reads(&t, 0x3F, 7) == 0 && pins_are(&t, PEER_RELEASED, PEER_HIGH), "one left: inactive");
-    sample_x(&t, 0);
-    check(pins_are(&t, PEER_LOW, PEER_LOW), "two again: active");
-    peer_write(&t, 0x1A, 0xA5);
-    check(pins_are(&t, PEER_RELEASED, PEER_HIGH), "data and full alone mapped: inactive");
-    peer_write(&t, 0x17, 0x60);
-    peer_write(&t, 0x1A, 0x26);
-    check(pins_are(&t, PEER_LOW, PEER_HIGH), "watermark or full on INT1, full on INT2");
-    peer_write(&t, 0x1A, 0x42);
-    peer_write(&t, 0x17, 0x30);
-    check(pins_are(&t, PEER_RELEASED, PEER_HIGH), "0x17 bit 6 off: inactive");
+    for (size_t i = 0; i < sizeof watched / sizeof *watched; i++) {
+        uint8_t body[LONGEST_BODY], bytes[UINT8_MAX];
+
+        from_hex(watched[i].event, body);
+        check(play_body(&t, body, bytes) == 0 && pins_are(&t, watched[i].int1, watched[i].int2),
+              "level 2, pins after event %zu, %s", i + 1, watched[i].event);
+    }
 }
 
 static void watermark(void)

@@ -37,7 +37,7 @@ use Rattle.rules.proofs.Reading.{depth-is, in-order}
 use Rattle.rules.proofs.Registers.{registers}
 use Rattle.rules.proofs.Stored.{stored-is}
 use Rattle.demand2.specs.Demand2.{elsewhere}
-use Rattle.demand2.specs.Watermark.{seen, level, held, frameSize, Reaches, goesOn, goOn, arrived, asks, asked, Watermark}
+use Rattle.demand2.specs.Watermark.{seen, level, held, frameSize, Reaches, setUpAt, goesOn, goOn, arrived, asks, asked, Watermark}
 use Rattle.demand2.proofs.Demand2.{demand2, out}
 
 -- ---- tests and what they say
@@ -68,7 +68,7 @@ module _ (es : List Event) (b : ByteWrites es) where
 
   reached-here : (seen es ≡ true) ↔ Reaches es 32 (held es)
   unfolding elsewhere
-  reached-here = rw (seen-is) (tests (bit 6 (byteBy es 0x17)) (level es) 32 (held es))
+  reached-here = rw seen-is (tests (bit 6 (byteBy es 0x17)) (level es) 32 (held es))
 
   -- "Depth is 32 in FIFO and STREAM, 1 in BYPASS"; "The held frames never exceed the depth"
   control-is : control es ≡ byteBy es 0x3E
@@ -81,17 +81,14 @@ module _ (es : List Event) (b : ByteWrites es) where
   few = omega (arith, demand3 es .demand .few, deep)
 
 -- ---- an event that leaves the settings alone
-abbrev four : List ℕ
-four = 0x14 ∷ 0x17 ∷ 0x30 ∷ 0x3E ∷ []
-
-not-written : (a : ℕ) → not (isIn four a) ≡ true → (c : ℕ) → isIn four c ≡ true → eqb a c ≡ false
+not-written : (a : ℕ) → not (isIn setUpAt a) ≡ true → (c : ℕ) → isIn setUpAt c ≡ true → eqb a c ≡ false
 not-written a on c m = go (eqb a c) refl
   where
     go : (t : Bool) → eqb a c ≡ t → t ≡ false
     go true e = let z : false ≡ true = rw (eqb-true a c e, m) at on in cc
     go false e = refl
 
-clears-not : (a byte : ℕ) → not (isIn four a) ≡ true → clears a byte ≡ false
+clears-not : (a byte : ℕ) → not (isIn setUpAt a) ≡ true → clears a byte ≡ false
 unfolding clears
 clears-not a byte on = rw (not-written a on 0x14 refl, not-written a on 0x3E refl)
 
@@ -99,7 +96,7 @@ none-less : (n : ℕ) → n ≡ n - 0
 none-less n = omega arith
 
 module _ (es : List Event) where
-  same-byte : (e : Event) → goesOn e ≡ true → (c : ℕ) → isIn four c ≡ true → byteBy (e ∷ es) c ≡ byteBy es c
+  same-byte : (e : Event) → goesOn e ≡ true → (c : ℕ) → isIn setUpAt c ≡ true → byteBy (e ∷ es) c ≡ byteBy es c
   unfolding byteBy
   same-byte powerUp on c m = cc
   same-byte (write a byte) on c m = rw (not-written a on c m, not-written a on 0x14 refl)
@@ -204,14 +201,14 @@ bytes-joined (read a n ∷ later) es c b = bytes-joined later es c b
 bytes-joined (sample x y z t ∷ later) es c b = bytes-joined later es c b
 bytes-joined (cycle ∷ later) es c b = bytes-joined later es c b
 
-module _ (es : List Event) (b : ByteWrites es) where
-  depth-32 : depthBy es ≤ 32
-  depth-32 = go (eqb (byteBy es 0x3E / 64) 0b00)
-    where
-      go : (t : Bool) → pick t 1 32 ≤ 32
-      go true = omega arith
-      go false = omega arith
+depth-32 : (es : List Event) → depthBy es ≤ 32
+depth-32 es = go (eqb (byteBy es 0x3E / 64) 0b00)
+  where
+    go : (t : Bool) → pick t 1 32 ≤ 32
+    go true = omega arith
+    go false = omega arith
 
+module _ (es : List Event) (b : ByteWrites es) where
   module _ (later : List Event) (c : ByteWrites later) (on : goOn later ≡ true) where
     seen-later : (seen (later ++ es) ≡ true) ↔ Reaches es 32 (held (later ++ es))
     seen-later =
@@ -223,7 +220,7 @@ module _ (es : List Event) (b : ByteWrites es) where
         let m = later-is es later on .many none in
         let r = seen-later in (
           λ s. let p = r .0 s in (p .0, p .1, omega (arith, p .3, m, deep es b), omega (arith, p .3, m)),
-          λ p. r .1 (p .0, p .1, omega (arith, p .2, depth-32), omega (arith, p .2, p .3, m, deep es b)),
+          λ p. r .1 (p .0, p .1, omega (arith, p .2, depth-32 es), omega (arith, p .2, p .3, m, deep es b)),
         )
 
     lasts-here : level es + asked (frameSize es) later ≤ held es → seen es ≡ true → seen (later ++ es) ≡ true

@@ -43,9 +43,13 @@ abbrev pub Reaches : List Event → ℕ → ℕ → Type 0
 Reaches es most many = (bit 6 (byteBy es 0x17) ≡ true) × (1 ≤ level es) × (level es ≤ most) × (level es ≤ many)
 
 -- ---- what comes later
--- the recorder leaves the settings of the watermark and the FIFO alone: no power-up, and no write to 0x14, 0x17, 0x30 or 0x3E
+-- where a write may set up the watermark or the FIFO anew: soft reset, the enables, the level, the mode
+abbrev pub setUpAt : List ℕ
+setUpAt = 0x14 ∷ 0x17 ∷ 0x30 ∷ 0x3E ∷ []
+
+-- the recorder leaves them as they are: no power-up, and no such write
 abbrev pub goesOn : Event → Bool
-goesOn e = not (either (isPowerUp e) (atWrite false (λ a byte. isIn (0x14 ∷ 0x17 ∷ 0x30 ∷ 0x3E ∷ []) a) e))
+goesOn e = not (either (isPowerUp e) (atWrite false (λ a byte. isIn setUpAt a) e))
 
 abbrev pub goOn : List Event → Bool
 goOn [] = true
