@@ -1,20 +1,15 @@
 // The device of 01: its record, five events and three questions. Each event takes the record by value and hands it back.
 ghost use mathlib.Core.Path.{_≡_};
 ghost use lib.ListN.{length};
-ghost use Rattle.device.specs.Device.{powerUp};
+ghost use Rattle.fifo.specs.Flat.{flatAt};
+ghost use Rattle.device.specs.Device.{powerUp, withFlat};
 ghost use Rattle.device.specs.Show.{pinsOf, heldIn, rangeIn};
 ghost use Rattle.device.specs.Write.{writeOf};
 ghost use Rattle.device.specs.Read.{readOf, bufferAfter};
 ghost use Rattle.device.specs.Sample.{sampleOf, cycleOf};
 use channels::Channels;
-use channels::codes_of;
-use codes::CONTROL_AT;
-use codes::FRAMES_AT;
 use codes::RANGE_AT;
 use codes::Range;
-use codes::SHADOW_AT;
-use codes::axes_of;
-use codes::mode_of;
 use codes::range_of;
 use detectors::Detectors;
 use fifo::Fifo;
@@ -23,26 +18,18 @@ use fifo::no_frames;
 use interrupts::Pin;
 use interrupts::Pins;
 use interrupts::pin_level;
-use laws::bit;
 use registers::Answer;
-use registers::is_accepted;
-use registers::judge_write;
-use registers::read_answer;
 
 mod frame;
+mod lent;
 mod reading;
 mod showing;
 mod verdict;
 mod writing;
 
-use frame::frame_of;
-use reading::burst;
 use showing::Inside;
 use showing::statuses_in;
-use verdict::sample_answer;
 use writing::first_bytes;
-use writing::write_channels;
-use writing::write_registers;
 
 #[repr(C)]
 pub struct Device {
@@ -52,8 +39,8 @@ pub struct Device {
     temperature: u8,
     // whether an accepted sample came since the last cycle start or reset
     came: bool,
-    // the FIFO's store, and its numbers
-    frames: [u8; ROOM],
+    // the FIFO's store, which the entry for C lends where it lies, and its numbers
+    pub frames: [u8; ROOM],
     fifo: Fifo,
     detectors: Detectors,
 }
@@ -62,6 +49,18 @@ pub struct Device {
 pub struct Answered {
     pub answer: Answer,
     pub device: Device,
+}
+
+impl Answered {
+    // With these frames in the device's store.
+    fn with_frames(self, frames: [u8; ROOM]) -> Self
+        ensures { λ r. ⌜ r ≡ record { answer = self .answer; device = withFlat (self .device) (flatAt frames (self .device .fifo)) } ⌝ }
+    {
+        let answer = self.answer;
+        let mut device = self.device;
+        device.frames = frames;
+        Answered { answer, device }
+    }
 }
 
 impl Device {
@@ -89,83 +88,30 @@ impl Device {
     pub fn write(mut self, address: u8, byte: u8) -> Answered
         ensures { λ r. ⌜ r ≡ writeOf self address byte ⌝ }
     {
-        let mut regs = self.regs;
-        let judged = judge_write(&regs, address, byte);
-        let answer = judged.answer;
-        let deeds = judged.deeds;
-        write_registers(&mut regs, deeds, address, judged.stored);
-        self.regs = regs;
-        let channels = self.channels;
-        self.channels = write_channels(channels, deeds);
-        let detectors = self.detectors;
-        self.detectors = detectors.after_write(deeds);
-        let fifo = self.fifo;
-        self.fifo = fifo.emptied_when(&mut self.frames, deeds.empties);
-        if deeds.resets {
-            self.temperature = 0;
-            self.came = false;
-        }
-        Answered {
-            answer,
-            device: self,
-        }
+        let before = self;
+        let done = before.write_in(&mut self.frames, address, byte);
+        let frames = self.frames;
+        done.with_frames(frames)
     }
 
     // A burst read into a lent buffer, whose own length is the read length.
     pub fn read(mut self, address: u8, buffer: &mut [u8]) -> Answered
         ensures { λ r. ⌜ (r ≡ readOf self address (length (now (buffer .entry)))) × (now (buffer .exit) ≡ bufferAfter self address (now (buffer .entry))) ⌝ }
     {
-        let answer = read_answer(address, buffer.len());
-        if is_accepted(answer) {
-            let fifo = self.fifo;
-            let regs = self.regs;
-            if address as usize == FRAMES_AT {
-                let axes = axes_of(regs[CONTROL_AT]);
-                self.fifo = fifo.readout(&mut self.frames, Device::DEPTH, axes, buffer);
-            } else {
-                let detectors = self.detectors;
-                let channels = self.channels;
-                let inside = Inside {
-                    temperature: self.temperature,
-                    came: self.came,
-                    fifo,
-                    detectors,
-                };
-                let locks = !bit(regs[SHADOW_AT], 6);
-                self.channels = burst(channels, locks, inside, &regs, address, buffer);
-            }
-        }
-        Answered {
-            answer,
-            device: self,
-        }
+        let before = self;
+        let done = before.read_in(&mut self.frames, address, buffer);
+        let frames = self.frames;
+        done.with_frames(frames)
     }
 
     // A sample.
     pub fn sample(mut self, x: i16, y: i16, z: i16, temperature: u8) -> Answered
         ensures { λ r. ⌜ r ≡ sampleOf self x y z temperature ⌝ }
     {
-        let answer = sample_answer(x, y, z);
-        if is_accepted(answer) {
-            let codes = codes_of(x, y, z);
-            let regs = self.regs;
-            let control = regs[CONTROL_AT];
-            let axes = axes_of(control);
-            let mode = mode_of(control);
-            let channels = self.channels;
-            self.channels = channels.sample(codes);
-            self.temperature = temperature;
-            self.came = true;
-            let frame = frame_of(axes, codes);
-            let fifo = self.fifo;
-            self.fifo = fifo.push(&mut self.frames, Device::DEPTH, mode, axes, frame);
-            let detectors = self.detectors;
-            self.detectors = detectors.sample(&regs, x, y, z);
-        }
-        Answered {
-            answer,
-            device: self,
-        }
+        let before = self;
+        let done = before.sample_in(&mut self.frames, x, y, z, temperature);
+        let frames = self.frames;
+        done.with_frames(frames)
     }
 
     // The start of an acquisition cycle.

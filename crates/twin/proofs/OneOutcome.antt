@@ -1,6 +1,11 @@
 -- Each public function's contract, as its source states it, asks nothing of a call and leaves one outcome.
 -- Assumes nothing.
-use mathlib.Core.Path.{refl}
+use Prim.Native.Nat.{ℕ}
+use mathlib.Core.List.{List}
+use mathlib.Core.Path.{_≡_, refl}
+use Rattle.fifo.specs.Flat.{flatAt}
+use Rattle.device.specs.Device.{withFlat}
+use Rattle.twin.specs.declared.Stepped.{Stepped}
 use Rattle.laws.specs.Outcome.{Settled}
 use Rattle.laws.proofs.Outcome.{settles, meet}
 use Rattle.twin.proofs.step as step
@@ -11,8 +16,16 @@ use Rattle.twin.proofs.twin_pins as twin-pins
 use Rattle.twin.proofs.twin_size as twin-size
 use Rattle.twin.proofs.twin_alignment as twin-alignment
 
+-- what a step gave, with the lent store in the device
+abbrev lent-in : Stepped → List ℕ → Stepped
+lent-in r frames = record { number = r .number; device = withFlat (r .device) (flatAt frames (r .device .fifo)) }
+
 pub step-settled : Settled step.ended (λ M. step.clauses) (λ M. step.spec)
-step-settled = settles (λ κs a r r′ s s′ p q. (meet (p .0) (q .0), λ i. (tt, (tt, (tt, (tt, (tt, (tt, (tt, (meet (p .1) (q .1) i, tt))))))))))
+step-settled = settles (λ κs a r r′ s s′ p q.
+    let e : lent-in r (s .1 .0) ≡ lent-in r′ (s′ .1 .0) = meet (p .0) (q .0) in (
+      λ i. record { number = e i .number; device = withFlat (e i .device) (flatAt (meet (p .1) (q .1) i) (e i .device .fifo)) },
+      λ i. (tt, (e i .device .frames, (tt, (tt, (tt, (tt, (tt, (tt, (meet (p .2) (q .2) i, tt))))))))),
+    ))
 
 pub pins-code-settled : Settled pins-code.ended (λ M. pins-code.clauses) (λ M. pins-code.spec)
 pins-code-settled = settles (λ κs a r r′ s s′ p q. (meet p q, refl))

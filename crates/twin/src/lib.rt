@@ -3,7 +3,8 @@ ghost use mathlib.Core.Path.{_≡_};
 ghost use lib.ListN.{length};
 ghost use prog.Memory.{size, align};
 ghost use Rattle.device.proofs.Device.Laws.{mir as deviceType};
-ghost use Rattle.device.specs.Device.{powerUp};
+ghost use Rattle.fifo.specs.Flat.{flatAt};
+ghost use Rattle.device.specs.Device.{powerUp, withFlat};
 ghost use Rattle.twin.specs.Entry.{asked, numberedOf, stepOf, lentAt, pinsCode, levelCode};
 use benchlog::CYCLE;
 use benchlog::Found;
@@ -13,6 +14,7 @@ use benchlog::WRITE;
 use benchlog::found_number_of;
 use device::Answered;
 use device::Device;
+use fifo::ROOM;
 use interrupts::Level;
 use registers::number_of;
 
@@ -34,9 +36,10 @@ fn numbered(done: Answered) -> Stepped
 }
 
 // One event, by its kind in the log: a write of a byte, a read of as many bytes as the buffer has, a sample whose temperature is the
-// byte, or the start of a cycle. Any other kind is refused.
+// byte, or the start of a cycle. Any other kind is refused. The FIFO's store is lent; the record's own is neither looked at nor changed.
 pub fn step(
     device: Device,
+    frames: &mut [u8; ROOM],
     kind: u8,
     address: u8,
     byte: u8,
@@ -45,13 +48,15 @@ pub fn step(
     z: i16,
     buffer: &mut [u8],
 ) -> Stepped
-    ensures { λ r. ⌜ (r ≡ stepOf device (asked kind address byte x y z (length (now (buffer .entry)))))
-        × (now (buffer .exit) ≡ lentAt device (asked kind address byte x y z (length (now (buffer .entry)))) (now (buffer .entry))) ⌝ }
+    ensures { λ r. ⌜ (record { number = r .number; device = withFlat (r .device) (flatAt (now (frames .exit)) (r .device .fifo)) }
+        ≡ stepOf (withFlat device (flatAt (now (frames .entry)) (device .fifo))) (asked kind address byte x y z (length (now (buffer .entry)))))
+        × (r .device .frames ≡ device .frames)
+        × (now (buffer .exit) ≡ lentAt (withFlat device (flatAt (now (frames .entry)) (device .fifo))) (asked kind address byte x y z (length (now (buffer .entry)))) (now (buffer .entry))) ⌝ }
 {
     match kind {
-        WRITE => numbered(device.write(address, byte)),
-        READ => numbered(device.read(address, buffer)),
-        SAMPLE => numbered(device.sample(x, y, z, byte)),
+        WRITE => numbered(device.write_in(frames, address, byte)),
+        READ => numbered(device.read_in(frames, address, buffer)),
+        SAMPLE => numbered(device.sample_in(frames, x, y, z, byte)),
         CYCLE => numbered(device.start_cycle()),
         _ => Stepped {
             number: found_number_of(Found::WrongRecord),
@@ -81,7 +86,7 @@ pub fn pins_code(device: Device) -> u8
     level_code(first) + 4 * level_code(second)
 }
 
-// One event, on the harness's own record.
+// One event, on the harness's own record: its store is lent where it lies, and the rest goes by value.
 #[no_mangle]
 pub extern "C" fn twin_event(
     d: &mut Device,
@@ -97,8 +102,8 @@ pub extern "C" fn twin_event(
         × (now (d .exit) ≡ stepOf (now (d .entry)) (asked kind address byte x y z (length (now (buffer .entry)))) .device)
         × (now (buffer .exit) ≡ lentAt (now (d .entry)) (asked kind address byte x y z (length (now (buffer .entry)))) (now (buffer .entry))) ⌝ }
 {
-    let s = step(*d, kind, address, byte, x, y, z, buffer);
-    *d = s.device;
+    let s = step(*d, &mut d.frames, kind, address, byte, x, y, z, buffer);
+    *d = d.with_rest_of(s.device);
     s.number
 }
 

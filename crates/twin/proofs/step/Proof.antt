@@ -1,35 +1,39 @@
+use mathlib.Core.Path.{ap, refl}
 use mir.Facts.{toZ-ofZ}
 use borrow.Author.Needs.{needs}
 use borrow.Author.Tests.{ne-eqb}
-use Rattle.twin.specs.Entry.{asked}
+use Rattle.device.specs.Sample.{cycleOf}
+use Rattle.twin.specs.Entry.{asked, numberedOf}
 use Rattle.twin.proofs.step.Statement.{statement}
 use Rattle.twin.proofs.step.Tie as tie
 
 write-returns : tie.Need-returns
 unfolding asked
 write-returns c =
-    let k = c .before .before .match .keys1 in
-    (simp (k, c .numbered .ensures, c .before .write .ensures), simp (k))
+    let k = c .before .before .before .match .keys1 in
+    let done = c .before .write-in .ensures in
+    (rw (k, c .numbered .ensures) (ap numberedOf (done .0)), rw (c .numbered .ensures) (done .1), simp (k))
 
 read-returns : tie.Need-returns-2
 unfolding asked
 read-returns c =
-    let k = c .before .before .before .before .before .match .keys2 in
-    let r = c .before .before .before .read .ensures in
-    (simp (k, c .numbered2 .ensures, r .0), simp (k, r .1))
+    let k = c .before .before .before .before .before .before .match .keys2 in
+    let done = c .before .before .before .read-in .ensures in
+    (rw (k, c .numbered2 .ensures) (ap numberedOf (done .0)), rw (c .numbered2 .ensures) (done .1), rw (k) (done .2))
 
 sample-returns : tie.Need-returns-3
 unfolding asked
 sample-returns c =
-    let k = c .before .before .match .keys3 in
-    let f = c .before .before .before .before .fits in
-    (simp (k, c .numbered3 .ensures, c .before .sample .ensures, toZ-ofZ (f .x), toZ-ofZ (f .y), toZ-ofZ (f .z)), simp (k))
+    let k = c .before .before .before .match .keys3 in
+    let f = c .before .before .before .before .before .fits in
+    let done = rw (toZ-ofZ (f .x), toZ-ofZ (f .y), toZ-ofZ (f .z)) at (c .before .sample-in .ensures) in
+    (rw (k, c .numbered3 .ensures) (ap numberedOf (done .0)), rw (c .numbered3 .ensures) (done .1), simp (k))
 
 cycle-returns : tie.Need-returns-4
-unfolding asked
+unfolding asked cycleOf
 cycle-returns c =
     let k = c .before .before .match .keys4 in
-    (simp (k, c .numbered4 .ensures, c .before .start-cycle .ensures), simp (k))
+    (simp (k, c .numbered4 .ensures, c .before .start-cycle .ensures), simp (c .numbered4 .ensures, c .before .start-cycle .ensures), simp (k))
 
 refused-returns : tie.Need-returns-5
 unfolding asked
@@ -39,7 +43,7 @@ refused-returns c =
     let is2 = ne-eqb _ 2 (n .0 .0 .1) in
     let is3 = ne-eqb _ 3 (n .0 .1) in
     let is4 = ne-eqb _ 4 (n .1) in
-    (simp (is1, is2, is3, is4, c .found-number-of .ensures), simp (is1, is2, is3, is4))
+    (simp (is1, is2, is3, is4, c .found-number-of .ensures), refl, simp (is1, is2, is3, is4))
 
 pub step-spec : {M : Type 1} → statement M
 step-spec =

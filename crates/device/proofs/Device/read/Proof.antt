@@ -1,49 +1,12 @@
-use mathlib.Core.Path.{sym, _∙_}
+use mathlib.Core.Path.{_∙_}
 use borrow.Author.Needs.{needs}
-use borrow.Author.Tests.{eq-eqb, ne-eqb}
-use Rattle.device.proofs.Events.{readout-is, burst-is, read-refused}
 use Rattle.device.proofs.Device.read.Statement.{statement}
 use Rattle.device.proofs.Device.read.Tie as tie
 
 returns : tie.Need-returns
 returns c =
-    let readout = c .before .before in
-    let axes = readout .before .before .before in
-    let frames = axes .before in
-    let taken = frames .before .before .before in
-    let accepted = taken .before in
-    let f = readout .readout .ensures in
-    let e = axes .axes-of .ensures in
-    readout-is _ _ _ _ (accepted .before .read-answer .ensures) (sym (accepted .is-accepted .ensures) ∙ taken .if1 .taken) (eq-eqb _ _ (frames .if2 .taken)) _ _ (f .0 ∙ rw e) (f .1 ∙ rw e)
-
-returns-2 : tie.Need-returns-2
-returns-2 c =
-    let burst = c .before .before in
-    let shadow = burst .before .before .before in
-    let frames = shadow .before .before .before in
-    let taken = frames .before .before .before in
-    let accepted = taken .before in
-    let f = burst .burst .ensures in
-    let e = shadow .bit .ensures in
-    burst-is _ _ _ _ (accepted .before .read-answer .ensures) (sym (accepted .is-accepted .ensures) ∙ taken .if1 .taken) (ne-eqb _ _ (frames .if2 .left)) _ _ (f .0 ∙ rw e) (f .1 ∙ rw e)
-
-returns-3 : tie.Need-returns-3
-returns-3 c = read-refused _ _ _ _ (c .before .before .read-answer .ensures) (sym (c .before .is-accepted .ensures) ∙ c .if1 .left)
+    let e = c .before .before .before .before .read-in .ensures in
+    (c .with-frames .ensures ∙ e .0, e .2)
 
 pub read-spec : {M : Type 1} → statement M
-read-spec =
-    tie.close
-    (tie.spec
-    (λ c κs. tt)
-    (λ c κs. tt)
-    (λ c. search needs)
-    (λ c κs. tt)
-    (λ c κs. tt)
-    (λ c. search needs)
-    (λ c κs. tt)
-    (λ c κs. tt)
-    (λ c. search needs)
-    returns
-    (λ c. search needs)
-    returns-2
-    returns-3)
+read-spec = tie.close (tie.spec (λ c κs. tt) (λ c κs. tt) (λ c. search needs) returns)

@@ -1,53 +1,13 @@
-use mathlib.Core.Path.{refl, sym, _∙_}
+use mathlib.Core.Path.{_∙_}
 use mir.Facts.{toZ-ofZ}
-use borrow.Author.Needs.{needs}
-use Rattle.device.proofs.Events.{sample-is, sample-refused}
 use Rattle.device.proofs.Device.sample.Statement.{statement}
 use Rattle.device.proofs.Device.sample.Tie as tie
 
 returns : tie.Need-returns
 returns c =
-    let push = c .before .before .before in
-    let frame = push .before .before .before in
-    let channels = frame .before in
-    let mode = channels .before .before in
-    let axes = mode .before in
-    let codes = axes .before .before in
-    let taken = codes .before in
-    let accepted = taken .before in
-    let answer = accepted .before in
-    let f = answer .before .fits in
-    let t = simp (toZ-ofZ (f .x), toZ-ofZ (f .y), toZ-ofZ (f .z)) at (answer .sample-answer .ensures) in
-    let k = simp (toZ-ofZ (f .x), toZ-ofZ (f .y), toZ-ofZ (f .z)) at (codes .codes-of .ensures) in
-    sample-is _ _ _ _ _ _ t (sym (accepted .is-accepted .ensures) ∙ taken .if1 .taken) _ record {
-      regs = refl;
-      channels = channels .sample .ensures ∙ rw k refl;
-      temperature = refl;
-      came = refl;
-      flat = push .push .ensures ∙ rw (frame .frame-of .ensures, mode .mode-of .ensures, axes .axes-of .ensures, k);
-      detectors = c .sample2 .ensures ∙ rw (toZ-ofZ (f .x), toZ-ofZ (f .y), toZ-ofZ (f .z));
-    }
-
-returns-2 : tie.Need-returns-2
-returns-2 c =
-    let answer = c .before .before in
-    let f = answer .before .fits in
-    let t = simp (toZ-ofZ (f .x), toZ-ofZ (f .y), toZ-ofZ (f .z)) at (answer .sample-answer .ensures) in
-    sample-refused _ _ _ _ _ _ t (sym (c .before .is-accepted .ensures) ∙ c .if1 .left)
+    let sampled = c .before .before in
+    let f = sampled .before .before .fits in
+    c .with-frames .ensures ∙ rw (toZ-ofZ (f .x), toZ-ofZ (f .y), toZ-ofZ (f .z)) at (sampled .sample-in .ensures .0)
 
 pub sample-spec : {M : Type 1} → statement M
-sample-spec =
-    tie.close
-    (tie.spec
-    (λ c κs. tt)
-    (λ c κs. tt)
-    (λ c κs. tt)
-    (λ c. search needs)
-    (λ c κs. tt)
-    (λ c κs. tt)
-    (λ c κs. tt)
-    (λ c κs. tt)
-    (λ c κs. tt)
-    (λ c κs. tt)
-    returns
-    returns-2)
+sample-spec = tie.close (tie.spec (λ c κs. tt) (λ c κs. tt) returns)

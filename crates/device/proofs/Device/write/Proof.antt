@@ -1,48 +1,9 @@
-use mathlib.Core.Path.{refl}
-use Rattle.device.proofs.Events.{write-is}
+use mathlib.Core.Path.{_∙_}
 use Rattle.device.proofs.Device.write.Statement.{statement}
 use Rattle.device.proofs.Device.write.Tie as tie
 
 returns : tie.Need-returns
-returns c =
-    let emptied = c .before in
-    let detectors = emptied .before .before .before in
-    let channels = detectors .before .before in
-    let registers = channels .before .before in
-    let judged = registers .before .before .before in
-    write-is _ _ _ _ (judged .judge-write .ensures) _ record {
-      regs = registers .write-registers .ensures;
-      channels = channels .write-channels .ensures;
-      temperature = rw (c .if1 .taken) refl;
-      came = rw (c .if1 .taken) refl;
-      flat = emptied .emptied-when .ensures;
-      detectors = detectors .after-write .ensures;
-    }
-
-returns-2 : tie.Need-returns-2
-returns-2 c =
-    let emptied = c .before in
-    let detectors = emptied .before .before .before in
-    let channels = detectors .before .before in
-    let registers = channels .before .before in
-    let judged = registers .before .before .before in
-    write-is _ _ _ _ (judged .judge-write .ensures) _ record {
-      regs = registers .write-registers .ensures;
-      channels = channels .write-channels .ensures;
-      temperature = rw (c .if1 .left) refl;
-      came = rw (c .if1 .left) refl;
-      flat = emptied .emptied-when .ensures;
-      detectors = detectors .after-write .ensures;
-    }
+returns c = c .with-frames .ensures ∙ c .before .before .write-in .ensures .0
 
 pub write-spec : {M : Type 1} → statement M
-write-spec =
-    tie.close
-    (tie.spec
-    (λ c κs. tt)
-    (λ c κs. tt)
-    (λ c κs. tt)
-    (λ c κs. tt)
-    (λ c κs. tt)
-    returns
-    returns-2)
+write-spec = tie.close (tie.spec (λ c κs. tt) (λ c κs. tt) returns)
