@@ -13,7 +13,7 @@ use Rattle.codes.specs.Axes.{axesOf}
 use Rattle.channels.specs.Codes.{codes}
 use Rattle.channels.specs.Channels.{sampled}
 use Rattle.channels.specs.declared.Channels.{Channels}
-use Rattle.fifo.specs.Flat.{Flat, flatAt, numbersOf}
+use Rattle.fifo.specs.Flat.{Flat, numbersOf}
 use Rattle.fifo.specs.Store.{readoutAt}
 use Rattle.detectors.specs.Detectors.{detectorsSampled, detectorsWritten}
 use Rattle.registers.specs.Answers.{accepted}
@@ -29,10 +29,6 @@ use Rattle.device.specs.Sample.{sampleOf, sampleAnswer, afterAccepted, f
 use Rattle.device.specs.declared.Device.{Device}
 use Rattle.device.specs.declared.Answered.{Answered}
 use Rattle.device.proofs.Burst.{after-is, given-is}
-
--- a device with a lent store in the place of its own
-abbrev pub lent : Device → List ℕ → Device
-lent d frames = withFlat d (flatAt frames (d .fifo))
 
 -- ---- a write
 module _ (d : Device) (a byte : ℕ) (j : Judged) (is : j ≡ judgement (d .regs) a byte) where

@@ -1,3 +1,4 @@
 pub mod Burst
 pub mod Events
 pub mod Refused
+pub mod Holding

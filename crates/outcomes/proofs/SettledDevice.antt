@@ -3,11 +3,10 @@
 use Prim.Native.Nat.{ℕ}
 use mathlib.Core.List.{List}
 use mathlib.Core.Path.{_≡_, refl}
-use Rattle.fifo.specs.Flat.{flatAt}
-use Rattle.device.specs.Device.{withFlat}
 use Rattle.device.specs.declared.Answered.{Answered}
 use Rattle.laws.specs.Outcome.{Settled}
 use Rattle.laws.proofs.Outcome.{settles, meet}
+use Rattle.device.proofs.Holding.{answered}
 use Rattle.device.proofs.Device.power_up as power-up
 use Rattle.device.proofs.Device.write as write
 use Rattle.device.proofs.Device.read as read
@@ -35,27 +34,23 @@ sample-settled : Settled sample.ended (λ M. sample.clauses) (λ M. sample.spec)
 sample-settled = plain (λ κs a s s′. refl)
 
 -- ---- while the store is lent
--- what an event gave, with these frames in the device's store
-abbrev with-frames : Answered → List ℕ → Answered
-with-frames r frames = record { answer = r .answer; device = withFlat (r .device) (flatAt frames (r .device .fifo)) }
-
 -- what the answer with the lent store is, and the record's own store: together they are the answer
-apart : (r r′ : Answered) (frames frames′ : List ℕ) → with-frames r frames ≡ with-frames r′ frames′ → r .device .frames ≡ r′ .device .frames → r ≡ r′
-apart r r′ frames frames′ e own = λ i. with-frames (e i) (own i)
+apart : (r r′ : Answered) (frames frames′ : List ℕ) → answered r frames ≡ answered r′ frames′ → r .device .frames ≡ r′ .device .frames → r ≡ r′
+apart r r′ frames frames′ e own = λ i. answered (e i) (own i)
 
 write-in-settled : Settled write-in.ended (λ M. write-in.clauses) (λ M. write-in.spec)
 write-in-settled = settles (λ κs a r r′ s s′ p q.
-    let e : with-frames r (s .1 .0) ≡ with-frames r′ (s′ .1 .0) = meet (p .0) (q .0) in
+    let e : answered r (s .1 .0) ≡ answered r′ (s′ .1 .0) = meet (p .0) (q .0) in
     (apart r r′ _ _ e (meet (p .1) (q .1)), λ i. (tt, (e i .device .frames, (tt, (tt, tt))))))
 
 read-in-settled : Settled read-in.ended (λ M. read-in.clauses) (λ M. read-in.spec)
 read-in-settled = settles (λ κs a r r′ s s′ p q.
-    let e : with-frames r (s .1 .0) ≡ with-frames r′ (s′ .1 .0) = meet (p .0) (q .0) in
+    let e : answered r (s .1 .0) ≡ answered r′ (s′ .1 .0) = meet (p .0) (q .0) in
     (apart r r′ _ _ e (meet (p .1) (q .1)), λ i. (tt, (e i .device .frames, (tt, (meet (p .2) (q .2) i, tt))))))
 
 sample-in-settled : Settled sample-in.ended (λ M. sample-in.clauses) (λ M. sample-in.spec)
 sample-in-settled = settles (λ κs a r r′ s s′ p q.
-    let e : with-frames r (s .1 .0) ≡ with-frames r′ (s′ .1 .0) = meet (p .0) (q .0) in
+    let e : answered r (s .1 .0) ≡ answered r′ (s′ .1 .0) = meet (p .0) (q .0) in
     (apart r r′ _ _ e (meet (p .1) (q .1)), λ i. (tt, (e i .device .frames, (tt, (tt, (tt, (tt, tt))))))))
 
 with-rest-of-settled : Settled with-rest-of.ended (λ M. with-rest-of.clauses) (λ M. with-rest-of.spec)

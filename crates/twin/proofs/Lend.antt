@@ -27,10 +27,9 @@ use denote.Struct.Laws as LL
 use denote.Struct.Steps.{spelt}
 use borrow.Struct.Items.{list-same}
 use borrow.Struct.Lend.{kept-field, record-apart-as, record-fill-as}
-use Rattle.fifo.specs.Flat.{flatAt}
 use Rattle.fifo.specs.Store.{room}
-use Rattle.device.specs.Device.{withFlat}
 use Rattle.device.specs.declared.Device.{Device}
+use Rattle.device.proofs.Holding.{holding}
 use Rattle.device.proofs.Device as T
 use Rattle.device.proofs.Device.Laws as T′
 use Rattle.twin.proofs.Walk.{dev}
@@ -44,10 +43,6 @@ place = 4
 
 abbrev pub storeAt : ℕ
 storeAt = 84
-
--- the device with these frames in its store
-abbrev pub holding : Device → List ℕ → Device
-holding h frames = withFlat h (flatAt frames (h .fifo))
 
 module _ {M : Type 1} (𝓤 : URA M) (H : Heap 𝓤) (A : Atoms 𝓤) where
   -- what is kept of the record while its store is lent

@@ -3,8 +3,7 @@
 use Prim.Native.Nat.{ℕ}
 use mathlib.Core.List.{List}
 use mathlib.Core.Path.{_≡_, refl}
-use Rattle.fifo.specs.Flat.{flatAt}
-use Rattle.device.specs.Device.{withFlat}
+use Rattle.device.proofs.Holding.{holding}
 use Rattle.twin.specs.declared.Stepped.{Stepped}
 use Rattle.laws.specs.Outcome.{Settled}
 use Rattle.laws.proofs.Outcome.{settles, meet}
@@ -18,12 +17,12 @@ use Rattle.twin.proofs.twin_alignment as twin-alignment
 
 -- what a step gave, with the lent store in the device
 abbrev lent-in : Stepped → List ℕ → Stepped
-lent-in r frames = record { number = r .number; device = withFlat (r .device) (flatAt frames (r .device .fifo)) }
+lent-in r frames = record { number = r .number; device = holding (r .device) frames }
 
 pub step-settled : Settled step.ended (λ M. step.clauses) (λ M. step.spec)
 step-settled = settles (λ κs a r r′ s s′ p q.
     let e : lent-in r (s .1 .0) ≡ lent-in r′ (s′ .1 .0) = meet (p .0) (q .0) in (
-      λ i. record { number = e i .number; device = withFlat (e i .device) (flatAt (meet (p .1) (q .1) i) (e i .device .fifo)) },
+      λ i. record { number = e i .number; device = holding (e i .device) (meet (p .1) (q .1) i) },
       λ i. (tt, (e i .device .frames, (tt, (tt, (tt, (tt, (tt, (tt, (meet (p .2) (q .2) i, tt))))))))),
     ))
 

@@ -47,11 +47,12 @@ use denote.Triple.Walked.{says, Stays, stay-ref, stay-none, gave-slice, walkOf, 
 use denote.Triple.Clauses.{ensured, lasts}
 use denote.Exit.{yes}
 use Rattle.device.specs.declared.Device.{Device}
+use Rattle.device.proofs.Holding.{holding}
 use Rattle.device.proofs.Device as T
 use Rattle.twin.specs.Entry.{asked, stepOf, lentAt}
 use Rattle.twin.specs.declared.Stepped.{Stepped}
 use Rattle.twin.proofs.Walk.{dev, opens-device, closes-device, typed-device, had-device, has8, has16, asks, proved-by}
-use Rattle.twin.proofs.Lend.{Store, storeAt, holding, Kept, lends-store, store-back}
+use Rattle.twin.proofs.Lend.{Store, storeAt, lends-store, store-back}
 use Rattle.twin.proofs.Stepped as S
 use Rattle.twin.proofs.Stepped.Laws as S′
 use Rattle.twin.proofs.step as g

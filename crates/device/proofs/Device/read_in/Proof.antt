@@ -2,7 +2,8 @@ use mathlib.Core.Path.{refl, sym, _∙_}
 use denote.Ref.{now}
 use borrow.Author.Needs.{needs}
 use borrow.Author.Tests.{eq-eqb, ne-eqb}
-use Rattle.device.proofs.Events.{lent, readout-is, burst-is, read-refused}
+use Rattle.device.proofs.Holding.{holding}
+use Rattle.device.proofs.Events.{readout-is, burst-is, read-refused}
 use Rattle.device.proofs.Device.read_in.Statement.{statement}
 use Rattle.device.proofs.Device.read_in.Tie as tie
 
@@ -16,7 +17,7 @@ returns c =
     let f = readout .readout .ensures in
     let e = axes .axes-of .ensures in
     let start = accepted .before .before .before .args in
-    let p = readout-is (lent (start .self) (now (start .frames))) _ (now (start .buffer)) _ (accepted .before .read-answer .ensures) (sym (accepted .is-accepted .ensures) ∙ taken .if1 .taken) (eq-eqb _ _ (frames .if2 .taken)) _ _ (f .0 ∙ rw e) (f .1 ∙ rw e) in
+    let p = readout-is (holding (start .self) (now (start .frames))) _ (now (start .buffer)) _ (accepted .before .read-answer .ensures) (sym (accepted .is-accepted .ensures) ∙ taken .if1 .taken) (eq-eqb _ _ (frames .if2 .taken)) _ _ (f .0 ∙ rw e) (f .1 ∙ rw e) in
     (p .0, refl, p .1)
 
 returns-2 : tie.Need-returns-2
@@ -29,13 +30,13 @@ returns-2 c =
     let f = burst .burst .ensures in
     let e = shadow .bit .ensures in
     let start = accepted .before .before .before .args in
-    let p = burst-is (lent (start .self) (now (start .frames))) _ (now (start .buffer)) _ (accepted .before .read-answer .ensures) (sym (accepted .is-accepted .ensures) ∙ taken .if1 .taken) (ne-eqb _ _ (frames .if2 .left)) _ _ (f .0 ∙ rw e) (f .1 ∙ rw e) in
+    let p = burst-is (holding (start .self) (now (start .frames))) _ (now (start .buffer)) _ (accepted .before .read-answer .ensures) (sym (accepted .is-accepted .ensures) ∙ taken .if1 .taken) (ne-eqb _ _ (frames .if2 .left)) _ _ (f .0 ∙ rw e) (f .1 ∙ rw e) in
     (p .0, refl, p .1)
 
 returns-3 : tie.Need-returns-3
 returns-3 c =
     let start = c .before .before .before .before .args in
-    let p = read-refused (lent (start .self) (now (start .frames))) _ (now (start .buffer)) _ (c .before .before .read-answer .ensures) (sym (c .before .is-accepted .ensures) ∙ c .if1 .left) in
+    let p = read-refused (holding (start .self) (now (start .frames))) _ (now (start .buffer)) _ (c .before .before .read-answer .ensures) (sym (c .before .is-accepted .ensures) ∙ c .if1 .left) in
     (p .0, refl, p .1)
 
 pub read-in-spec : {M : Type 1} → statement M

@@ -2,7 +2,8 @@ use mathlib.Core.Path.{refl, sym, _∙_}
 use denote.Ref.{now}
 use mir.Facts.{toZ-ofZ}
 use borrow.Author.Needs.{needs}
-use Rattle.device.proofs.Events.{lent, sample-is, sample-refused}
+use Rattle.device.proofs.Holding.{holding}
+use Rattle.device.proofs.Events.{sample-is, sample-refused}
 use Rattle.device.proofs.Device.sample_in.Statement.{statement}
 use Rattle.device.proofs.Device.sample_in.Tie as tie
 
@@ -21,7 +22,7 @@ returns c =
     let f = start .fits in
     let t = simp (toZ-ofZ (f .x), toZ-ofZ (f .y), toZ-ofZ (f .z)) at (answer .sample-answer .ensures) in
     let k = simp (toZ-ofZ (f .x), toZ-ofZ (f .y), toZ-ofZ (f .z)) at (codes .codes-of .ensures) in (
-      sample-is (lent (start .args .self) (now (start .args .frames))) _ _ _ _ _ t (sym (accepted .is-accepted .ensures) ∙ taken .if1 .taken) _ record {
+      sample-is (holding (start .args .self) (now (start .args .frames))) _ _ _ _ _ t (sym (accepted .is-accepted .ensures) ∙ taken .if1 .taken) _ record {
         regs = refl;
         channels = channels .sample .ensures ∙ rw k refl;
         temperature = refl;
@@ -38,7 +39,7 @@ returns-2 c =
     let start = answer .before in
     let f = start .fits in
     let t = simp (toZ-ofZ (f .x), toZ-ofZ (f .y), toZ-ofZ (f .z)) at (answer .sample-answer .ensures) in
-    (sample-refused (lent (start .args .self) (now (start .args .frames))) _ _ _ _ _ t (sym (c .before .is-accepted .ensures) ∙ c .if1 .left), refl)
+    (sample-refused (holding (start .args .self) (now (start .args .frames))) _ _ _ _ _ t (sym (c .before .is-accepted .ensures) ∙ c .if1 .left), refl)
 
 pub sample-in-spec : {M : Type 1} → statement M
 sample-in-spec =

@@ -1,6 +1,7 @@
 use mathlib.Core.Path.{refl}
 use denote.Ref.{now}
-use Rattle.device.proofs.Events.{lent, write-is}
+use Rattle.device.proofs.Holding.{holding}
+use Rattle.device.proofs.Events.{write-is}
 use Rattle.device.proofs.Device.write_in.Statement.{statement}
 use Rattle.device.proofs.Device.write_in.Tie as tie
 
@@ -12,7 +13,7 @@ returns c =
     let registers = channels .before .before in
     let judged = registers .before .before .before in
     let start = judged .before .before .before .args in (
-      write-is (lent (start .self) (now (start .frames))) _ _ _ (judged .judge-write .ensures) _ record {
+      write-is (holding (start .self) (now (start .frames))) _ _ _ (judged .judge-write .ensures) _ record {
         regs = registers .write-registers .ensures;
         channels = channels .write-channels .ensures;
         temperature = rw (c .if1 .taken) refl;
@@ -31,7 +32,7 @@ returns-2 c =
     let registers = channels .before .before in
     let judged = registers .before .before .before in
     let start = judged .before .before .before .args in (
-      write-is (lent (start .self) (now (start .frames))) _ _ _ (judged .judge-write .ensures) _ record {
+      write-is (holding (start .self) (now (start .frames))) _ _ _ (judged .judge-write .ensures) _ record {
         regs = registers .write-registers .ensures;
         channels = channels .write-channels .ensures;
         temperature = rw (c .if1 .left) refl;
