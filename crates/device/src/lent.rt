@@ -1,5 +1,6 @@
-// The events, while the FIFO's store is lent: they work in it where it lies. The record's own store is neither looked at nor changed, so
-// whoever lends it from behind a reference need not copy it.
+// The events, while the FIFO's store is lent: they work in it where it lies, and the record's own store is neither looked at nor changed.
+// So whoever lends the store out of a record behind a reference need not copy it. Each contract is that of the event by value, of the
+// device that has the lent store in the place of its own.
 ghost use mathlib.Core.Path.{_≡_};
 ghost use lib.ListN.{length};
 ghost use Rattle.fifo.specs.Flat.{flatAt};
