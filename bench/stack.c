@@ -69,23 +69,30 @@ static unsigned measured(void (*event)(void)) {
 }
 #endif
 
-static void show(const char *name, void (*event)(void), uint8_t mode, int samples) {
-    begin(mode, samples);
-    printf("%s: %u\n", name, measured(event));
-}
+static const struct {
+    const char *name;
+    void (*event)(void);
+    uint8_t mode;
+    int samples; /* so many came before */
+} kinds[] = {
+    {"sample, STREAM mode, the oldest is dropped", sample, 0x80, 32},
+    {"sample, FIFO mode, dropped", sample, 0x40, 32},
+    {"sample, FIFO mode, kept", sample, 0x40, 5},
+    {"sample, refused", refused_sample, 0x40, 5},
+    {"readout of 192 bytes", readout, 0x80, 32},
+    {"read of 0x0E", read_status, 0x80, 32},
+    {"read of 0x02, 6 bytes", read_data, 0x80, 32},
+    {"write of 0x0F", write_range, 0x80, 32},
+    {"write of 0x3E", write_mode, 0x80, 32},
+    {"soft reset", soft_reset, 0x80, 32},
+    {"cycle start", cycle, 0x80, 32},
+    {"unknown kind", unknown_kind, 0x80, 32},
+};
 
 int main(void) {
-    show("sample, STREAM mode, the oldest is dropped", sample, 0x80, 32);
-    show("sample, FIFO mode, dropped", sample, 0x40, 32);
-    show("sample, FIFO mode, kept", sample, 0x40, 5);
-    show("sample, refused", refused_sample, 0x40, 5);
-    show("readout of 192 bytes", readout, 0x80, 32);
-    show("read of 0x0E", read_status, 0x80, 32);
-    show("read of 0x02, 6 bytes", read_data, 0x80, 32);
-    show("write of 0x0F", write_range, 0x80, 32);
-    show("write of 0x3E", write_mode, 0x80, 32);
-    show("soft reset", soft_reset, 0x80, 32);
-    show("cycle start", cycle, 0x80, 32);
-    show("unknown kind", unknown_kind, 0x80, 32);
+    for (size_t i = 0; i < sizeof kinds / sizeof *kinds; i++) {
+        begin(kinds[i].mode, kinds[i].samples);
+        printf("%s: %u\n", kinds[i].name, measured(kinds[i].event));
+    }
     return answers == 0 || measured(nothing) != 0;
 }
