@@ -45,7 +45,8 @@ heldFrames most f = min (f .count) most
 abbrev pub behind : ℕ → ℕ → List ℕ → List ℕ → List ℕ
 behind size n frame bs = paste bs (n * size) frame size
 
--- of n frames of size bytes the first k go, and the others move to the front
+-- of n frames of size bytes the first k go, and the others move to the front. Q-3: "Do it inside the store that is there; the record stays
+-- as it is. No answer, byte or promise of the FIFO changes"
 abbrev pub forward : ℕ → ℕ → ℕ → List ℕ → List ℕ
 forward size n k bs = movedForward (k * size) (n * size) bs
 
