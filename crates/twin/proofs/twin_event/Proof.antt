@@ -14,12 +14,12 @@ use lib.Signed.{mag}
 use mir.Syntax.{named, w8, w16}
 use mir.Val.{Val, vint, vptr, ofZ}
 use mir.ValLaws.{ofZ-fits}
-use base.Logic.{SProp, ent, sep, emp, via, fst∗, id⊢}
+use base.Logic.{SProp, ent, emp, via, fst∗, id⊢}
 use base.Fml.{GName, Lft, Share, ftrue, flft, fobs, fbor, fat}
 use prog.Memory.{Memory}
 use prog.Routine.{Routine}
 use prog.Wp.{Heap, Calls, Loops, WpFn}
-use ghost.Atoms.{Atoms, sem}
+use ghost.Atoms.{Atoms}
 use contract.Monad.{Fun, fact}
 use contract.Running.{givenOf, tables}
 use types.Kit.{Given, mean, ‵, ⋆, raw, _⊛_, some, later, _$_, _∵_, !, qed, by, move, keep, drop, use0, use1, use3, split, join, pick, fsplit, fsplit3, fjoin, fjoin3, feqL, feqI, suffices, frame, await, rewrite, done}
