@@ -1,32 +1,33 @@
 -- What holds of an alarm however it is used. Assumes nothing.
-use Prim.Native.Nat.{ℕ, _+_, _/_, _%_, _^_, _<_}
+use Prim.Native.Nat.{ℕ, _+_, _-_, _/_, _%_, _^_, _<_, _≤_}
 use mathlib.Core.Bool.{Bool, true, false, not}
-use mathlib.Core.Path.{_≡_, refl}
+use mathlib.Core.Path.{_≡_, refl, ap, _∙_}
 use native.Mathlib.Omega.{arith}
-use borrow.Author.Tests.{eqb-true, eq-eqb, ne-eqb}
-use lib.Dec.{eqb}
+use borrow.Author.Tests.{eqb-true, eq-eqb, ne-eqb, le-leb, lt-leb, lt-ltb, le-ltb, ltb-true, ltb-false}
+use lib.Dec.{eqb, ltb}
 use Rattle.laws.specs.Choice.{pick, either}
 use Rattle.laws.specs.Bits.{bit, worth}
-use Rattle.alarm.specs.Alarm.{off, raised, cleared, marksOf, isAxisMark, Marked}
+use Rattle.alarm.specs.Alarm.{off, raised, cleared, isRunning, waited, lapseOf, marksOf, isAxisMark, Marked}
 use Rattle.alarm.specs.declared.Alarm.{Alarm}
+use Rattle.alarm.specs.declared.Lapse.the-variants.{Stands, Expires}
 
 -- ---- setting and clearing
 -- "A status already set is not set again": status, mark and sign stay
-pub raised-set : (mark : ℕ) (negative : Bool) (a : Alarm) → a .status ≡ true → raised mark negative a ≡ a
-raised-set mark negative a h = rw h refl
+pub raised-set : (mark : ℕ) (negative : Bool) (hold : ℕ) (a : Alarm) → a .status ≡ true → raised mark negative hold a ≡ a
+raised-set mark negative hold a h = rw h refl
 
-pub raised-clear : (mark : ℕ) (negative : Bool) (a : Alarm) → a .status ≡ false → raised mark negative a ≡ record { status = true; mark = mark; negative = negative }
-raised-clear mark negative a h = rw h refl
+pub raised-clear : (mark : ℕ) (negative : Bool) (hold : ℕ) (a : Alarm) → a .status ≡ false → raised mark negative hold a ≡ record { status = true; mark = mark; negative = negative; remaining = hold }
+raised-clear mark negative hold a h = rw h refl
 
-pub raised-status : (mark : ℕ) (negative : Bool) (a : Alarm) → raised mark negative a .status ≡ true
-raised-status mark negative a = go (a .status) refl
+pub raised-status : (mark : ℕ) (negative : Bool) (hold : ℕ) (a : Alarm) → raised mark negative hold a .status ≡ true
+raised-status mark negative hold a = go (a .status) refl
   where
-    go : (b : Bool) → a .status ≡ b → pick b a (record { status = true; mark = mark; negative = negative }) .status ≡ true
+    go : (b : Bool) → a .status ≡ b → pick b a (record { status = true; mark = mark; negative = negative; remaining = hold }) .status ≡ true
     go true h = h
     go false h = refl
 
-pub raised-twice : (mark mark′ : ℕ) (negative negative′ : Bool) (a : Alarm) → raised mark′ negative′ (raised mark negative a) ≡ raised mark negative a
-raised-twice mark mark′ negative negative′ a = raised-set mark′ negative′ (raised mark negative a) (raised-status mark negative a)
+pub raised-twice : (mark mark′ : ℕ) (negative negative′ : Bool) (hold hold′ : ℕ) (a : Alarm) → raised mark′ negative′ hold′ (raised mark negative hold a) ≡ raised mark negative hold a
+raised-twice mark mark′ negative negative′ hold hold′ a = raised-set mark′ negative′ hold′ (raised mark negative hold a) (raised-status mark negative hold a)
 
 pub cleared-twice : (a : Alarm) → cleared (cleared a) ≡ cleared a
 cleared-twice a = refl
@@ -35,6 +36,35 @@ cleared-twice a = refl
 pub cleared-sign : (a : Alarm) → cleared a .negative ≡ a .negative
 cleared-sign a = refl
 
+-- ---- a clock of us microseconds
+-- with this much remaining
+abbrev remains : Alarm → ℕ → Alarm
+remains a left = record { status = a .status; mark = a .mark; negative = a .negative; remaining = left }
+
+module _ (us : ℕ) (a : Alarm) where
+  -- where no time is running, nothing changes
+  pub idle : a .remaining ≡ 0 → lapseOf us a ≡ Stands a
+  unfolding lapseOf
+  idle h = let n : isRunning a ≡ false = le-ltb 0 (a .remaining) (omega arith) in rw n (ap (λ left. Stands (remains a left)) (omega arith))
+
+  -- one microsecond less than what remains leaves one
+  pub stands : us < a .remaining → lapseOf us a ≡ Stands (waited us a)
+  unfolding lapseOf
+  stands h = rw (lt-ltb 0 (a .remaining) (omega arith), lt-leb (a .remaining) us h)
+
+  -- "when the clock since its setting reaches that time"
+  pub reached : ¬ (a .remaining ≡ 0) → a .remaining ≤ us → lapseOf us a ≡ Expires (us - a .remaining)
+  unfolding lapseOf
+  reached h k = rw (lt-ltb 0 (a .remaining) (omega arith), le-leb (a .remaining) us k)
+
+-- a clock of 0 changes nothing
+pub none-passes : (a : Alarm) → lapseOf 0 a ≡ Stands a
+none-passes a = go (ltb 0 (a .remaining)) refl
+  where
+    go : (t : Bool) → ltb 0 (a .remaining) ≡ t → lapseOf 0 a ≡ Stands a
+    go true h = let p = ltb-true 0 (a .remaining) h in stands 0 a p ∙ ap (λ left. Stands (remains a left)) (omega arith)
+    go false h = let p = ltb-false 0 (a .remaining) h in idle 0 a (omega arith)
+
 -- ---- marks that come and go with the status
 pub off-marked : Marked off
 off-marked = refl
@@ -42,10 +72,10 @@ off-marked = refl
 pub cleared-marked : (a : Alarm) → Marked (cleared a)
 cleared-marked a = refl
 
-pub raised-marked : (mark : ℕ) (negative : Bool) (a : Alarm) → isAxisMark mark ≡ true → Marked a → Marked (raised mark negative a)
-raised-marked mark negative a m h = go (a .status)
+pub raised-marked : (mark : ℕ) (negative : Bool) (hold : ℕ) (a : Alarm) → isAxisMark mark ≡ true → Marked a → Marked (raised mark negative hold a)
+raised-marked mark negative hold a m h = go (a .status)
   where
-    go : (b : Bool) → Marked (pick b a (record { status = true; mark = mark; negative = negative }))
+    go : (b : Bool) → Marked (pick b a (record { status = true; mark = mark; negative = negative; remaining = hold }))
     go true = h
     go false = m
 

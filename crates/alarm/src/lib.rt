@@ -1,12 +1,22 @@
-// A detector's alarm: its status, the marks that come with it, and its sign. It is set and cleared here alone.
+// A detector's alarm: its status, the marks that come with it, its sign, and the time for which the status is still held. It is set and
+// cleared here alone.
 ghost use mathlib.Core.Path.{_≡_};
-ghost use Rattle.alarm.specs.Alarm.{off, raised, cleared, marksOf};
+ghost use Rattle.alarm.specs.Alarm.{off, raised, cleared, lapseOf, marksOf};
 
 #[repr(C)]
 pub struct Alarm {
     status: bool,
     mark: u8,
     negative: bool,
+    // in microseconds; 0 where no time is running
+    remaining: u32,
+}
+
+// What a clock does to an alarm: it stands, with less time remaining if some was running; or its time is reached, and so many
+// microseconds of the clock come after that.
+pub enum Lapse {
+    Stands(Alarm),
+    Expires(u32),
 }
 
 impl Alarm {
@@ -18,12 +28,14 @@ impl Alarm {
             status: false,
             mark: 0,
             negative: false,
+            remaining: 0,
         }
     }
 
-    // The status is set, with its mark and its sign; one already set stays as it is.
-    pub fn raise(self, mark: u8, negative: bool) -> Self
-        ensures { λ r. ⌜ r ≡ raised mark negative self ⌝ }
+    // The status is set, with its mark and its sign, and held for so many microseconds, or with 0 for no time; one already set stays as
+    // it is.
+    pub fn raise(self, mark: u8, negative: bool, hold: u32) -> Self
+        ensures { λ r. ⌜ r ≡ raised mark negative hold self ⌝ }
     {
         if self.status {
             self
@@ -32,17 +44,35 @@ impl Alarm {
                 status: true,
                 mark: mark,
                 negative: negative,
+                remaining: hold,
             }
         }
     }
 
-    // The mark clears with the status; the sign stays.
+    // Mark and time clear with the status; the sign stays.
     pub fn clear(mut self) -> Self
         ensures { λ r. ⌜ r ≡ cleared self ⌝ }
     {
         self.status = false;
         self.mark = 0;
+        self.remaining = 0;
         self
+    }
+
+    // A clock of so many microseconds comes.
+    pub fn clock(mut self, microseconds: u32) -> Lapse
+        ensures { λ r. ⌜ r ≡ lapseOf microseconds self ⌝ }
+    {
+        let remaining = self.remaining;
+        if remaining == 0 {
+            return Lapse::Stands(self);
+        }
+        let reached = microseconds >= remaining;
+        if reached {
+            return Lapse::Expires(microseconds - remaining);
+        }
+        self.remaining = remaining - microseconds;
+        Lapse::Stands(self)
     }
 
     pub fn is_set(self) -> bool

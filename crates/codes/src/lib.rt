@@ -1,7 +1,7 @@
 // What the codes of 0F, 21 and 3E mean, and the addresses that more than one rule names.
 ghost use mathlib.Core.Path.{_≡_};
 ghost use Rattle.codes.specs.Range.{rangeOf, isReservedRange};
-ghost use Rattle.codes.specs.Latch.{latchOf, isModelled, isUnlatched};
+ghost use Rattle.codes.specs.Latch.{latchOf, isUnlatched, holdOf};
 ghost use Rattle.codes.specs.Mode.{modeOf, isReservedMode};
 ghost use Rattle.codes.specs.Axes.{axesOf};
 
@@ -59,11 +59,11 @@ pub enum Range {
     Reserved,
 }
 
-// What the low nibble of 0x21 means. A latch time is not modelled.
+// What the low nibble of 0x21 means: a status is not latched, is latched, or is held for so many microseconds.
 pub enum Latch {
     Unlatched,
     Latched,
-    Timed,
+    Timed(u32),
 }
 
 // The mode bits of 0x3E. The reserved code is refused before it can be stored.
@@ -108,27 +108,28 @@ pub fn is_reserved_range(range: Range) -> bool
     }
 }
 
-// The latch mode of a byte of 0x21.
+// The latch mode of a byte of 0x21. Of the sixteen codes 1111 is what the list leaves.
 pub fn latch_of(byte: u8) -> Latch
     ensures { λ r. ⌜ r ≡ latchOf byte ⌝ }
 {
     let code = byte % 16;
     match code {
         0b0000 => Latch::Unlatched,
-        0b1000 => Latch::Unlatched,
+        0b0001 => Latch::Timed(250_000),
+        0b0010 => Latch::Timed(500_000),
+        0b0011 => Latch::Timed(1_000_000),
+        0b0100 => Latch::Timed(2_000_000),
+        0b0101 => Latch::Timed(4_000_000),
+        0b0110 => Latch::Timed(8_000_000),
         0b0111 => Latch::Latched,
-        0b1111 => Latch::Latched,
-        _ => Latch::Timed,
-    }
-}
-
-pub fn is_modelled(latch: Latch) -> bool
-    ensures { λ r. ⌜ r ≡ isModelled latch ⌝ }
-{
-    match latch {
-        Latch::Unlatched => true,
-        Latch::Latched => true,
-        Latch::Timed => false,
+        0b1000 => Latch::Unlatched,
+        0b1001 => Latch::Timed(250),
+        0b1010 => Latch::Timed(500),
+        0b1011 => Latch::Timed(1_000),
+        0b1100 => Latch::Timed(12_500),
+        0b1101 => Latch::Timed(25_000),
+        0b1110 => Latch::Timed(50_000),
+        _ => Latch::Latched,
     }
 }
 
@@ -138,7 +139,18 @@ pub fn is_unlatched(latch: Latch) -> bool
     match latch {
         Latch::Unlatched => true,
         Latch::Latched => false,
-        Latch::Timed => false,
+        Latch::Timed(_) => false,
+    }
+}
+
+// How long a status is held, in microseconds; 0 where no time clears it.
+pub fn hold_of(latch: Latch) -> u32
+    ensures { λ r. ⌜ r ≡ holdOf latch ⌝ }
+{
+    match latch {
+        Latch::Unlatched => 0,
+        Latch::Latched => 0,
+        Latch::Timed(microseconds) => microseconds,
     }
 }
 

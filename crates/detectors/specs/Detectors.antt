@@ -1,4 +1,4 @@
--- All detectors together: what a sample and a write do to them, and what they show.
+-- All detectors together: what a sample, a clock and a write do to them, and what they show.
 use Prim.Native.Nat.{ℕ}
 use mathlib.Core.Bool.{Bool}
 use mathlib.Core.List.{List}
@@ -6,10 +6,10 @@ use lib.IntN.{ℤ}
 use lib.ListN.{getD}
 use Rattle.laws.specs.Choice.{pick}
 use Rattle.codes.specs.Addresses.{axesAt, latchAt, pointsAt, thresholdAt}
-use Rattle.codes.specs.Latch.{latchOf, isUnlatched}
+use Rattle.codes.specs.Latch.{latchOf, isUnlatched, holdOf}
 use Rattle.alarm.specs.Alarm.{marksOf}
 use Rattle.slopes.specs.Previous.{noPrevious, remembered, forgotten, slopesTo}
-use Rattle.motion.specs.Detector.{quiet, afterSample, restarted}
+use Rattle.motion.specs.Detector.{quiet, afterSample, restarted, clocked}
 use Rattle.motion.specs.declared.Settings.{Settings}
 use Rattle.registers.specs.declared.Deeds.{Deeds}
 use Rattle.detectors.specs.declared.Detectors.{Detectors}
@@ -25,6 +25,7 @@ motionSettings regs = record {
   points = getD regs pointsAt 0;
   threshold = getD regs thresholdAt 0;
   unlatched = isUnlatched (latchOf (getD regs latchAt 0));
+  hold = holdOf (latchOf (getD regs latchAt 0));
 }
 
 -- an accepted sample x, y, z: each slope detector sees the slopes from the sample before it, which is then the previous one
@@ -33,6 +34,10 @@ detectorsSampled regs x y z d = record {
   previous = remembered x y z;
   motion = afterSample (motionSettings regs) (slopesTo x y z (d .previous)) (d .motion);
 }
+
+-- a clock of us microseconds: it does not touch the previous sample
+unfoldable pub detectorsClocked : ℕ → Detectors → Detectors
+detectorsClocked us d = record { previous = d .previous; motion = clocked us (d .motion) }
 
 -- a write: "clears status, marks and runs; 0x0F also forgets the previous sample"; soft reset makes all as at power-up
 unfoldable pub detectorsWritten : Deeds → Detectors → Detectors

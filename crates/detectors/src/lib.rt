@@ -1,4 +1,4 @@
-// All detectors together, with the previous sample that the slope detectors share: what a sample and a write do to them.
+// All detectors together, with the previous sample that the slope detectors share: what a sample, a clock and a write do to them.
 ghost use mathlib.Core.Path.{_≡_};
 ghost use Rattle.laws.specs.Choice.{pick};
 ghost use Rattle.slopes.specs.Previous.{forgotten};
@@ -8,6 +8,7 @@ use codes::AXES_AT;
 use codes::LATCH_AT;
 use codes::POINTS_AT;
 use codes::THRESHOLD_AT;
+use codes::hold_of;
 use codes::is_unlatched;
 use codes::latch_of;
 use motion::Motion;
@@ -25,11 +26,13 @@ pub struct Detectors {
 fn motion_settings(regs: &[u8; 64]) -> Settings
     ensures { λ r. ⌜ r ≡ detectors.motionSettings (now (regs .entry)) ⌝ }
 {
+    let latch = latch_of(regs[LATCH_AT]);
     Settings {
         axes: regs[AXES_AT],
         points: regs[POINTS_AT],
         threshold: regs[THRESHOLD_AT],
-        unlatched: is_unlatched(latch_of(regs[LATCH_AT])),
+        unlatched: is_unlatched(latch),
+        hold: hold_of(latch),
     }
 }
 
@@ -82,6 +85,18 @@ impl Detectors {
         Detectors {
             previous: Previous::remember(x, y, z),
             motion: motion.sample(motion_settings(regs), slopes),
+        }
+    }
+
+    // A clock of so many microseconds comes.
+    pub fn clock(self, microseconds: u32) -> Self
+        ensures { λ r. ⌜ r ≡ detectors.detectorsClocked microseconds self ⌝ }
+    {
+        let previous = self.previous;
+        let motion = self.motion;
+        Detectors {
+            previous,
+            motion: motion.clock(microseconds),
         }
     }
 

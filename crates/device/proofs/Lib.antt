@@ -1,4 +1,5 @@
 pub mod Burst
 pub mod Events
 pub mod Refused
+pub mod Clock
 pub mod Holding

@@ -3,3 +3,4 @@ pub mod Write
 pub mod Show
 pub mod Read
 pub mod Sample
+pub mod Clock

@@ -1,4 +1,4 @@
-// The device of 01: its record, five events and three questions. Each event takes the record by value and hands it back.
+// The device of 01: its record, its five events and Q-4's clock, and three questions. Each event takes the record by value and hands it back.
 ghost use mathlib.Core.Path.{_≡_};
 ghost use lib.ListN.{length};
 ghost use Rattle.fifo.specs.Flat.{flatAt};
@@ -7,6 +7,7 @@ ghost use Rattle.device.specs.Show.{pinsOf, heldIn, rangeIn};
 ghost use Rattle.device.specs.Write.{writeOf};
 ghost use Rattle.device.specs.Read.{readOf, bufferAfter};
 ghost use Rattle.device.specs.Sample.{sampleOf, cycleOf};
+ghost use Rattle.device.specs.Clock.{clockOf};
 use channels::Channels;
 use codes::RANGE_AT;
 use codes::Range;
@@ -119,6 +120,18 @@ impl Device {
         ensures { λ r. ⌜ r ≡ cycleOf self ⌝ }
     {
         self.came = false;
+        Answered {
+            answer: Answer::Done,
+            device: self,
+        }
+    }
+
+    // A clock of so many microseconds.
+    pub fn clock(mut self, microseconds: u32) -> Answered
+        ensures { λ r. ⌜ r ≡ clockOf self microseconds ⌝ }
+    {
+        let detectors = self.detectors;
+        self.detectors = detectors.clock(microseconds);
         Answered {
             answer: Answer::Done,
             device: self,

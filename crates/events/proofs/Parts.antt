@@ -15,10 +15,11 @@ use Rattle.device.specs.Device.{flatOf, withChannels}
 use Rattle.device.specs.Write.{writeOf, written}
 use Rattle.device.specs.Read.{locks, channelsRead, afterReadout, readOf}
 use Rattle.device.specs.Sample.{sampleAnswer, sampleOf, afterAccepted, cycleOf}
+use Rattle.device.specs.Clock.{clockOf}
 use Rattle.device.specs.declared.Device.{Device}
 use Rattle.device.proofs.Burst.{after-is}
 use Rattle.device.proofs.Refused as device-refused
-use Rattle.events.specs.Event.{Event, powerUp, write, read, sample, cycle, happens}
+use Rattle.events.specs.Event.{Event, powerUp, write, read, sample, cycle, clock, happens}
 use Rattle.events.specs.Run.{next}
 use Rattle.events.specs.Bank.{bankNext}
 use Rattle.events.specs.Parts.{channelsNext, temperatureNext, cameNext, flatNext, detectorsNext}
@@ -36,7 +37,7 @@ byParts d e = record {
 }
 
 pub by-parts : (d : Device) (e : Event) → next d e ≡ byParts d e
-unfolding device.powerUp writeOf written readOf sampleOf afterAccepted cycleOf
+unfolding device.powerUp writeOf written readOf sampleOf afterAccepted cycleOf clockOf
 by-parts d powerUp = refl
 by-parts d (write a byte) = rw (resets-is (d .regs) a byte, empties-is (d .regs) a byte)
 by-parts d (read a n) = rw after-is (go (accepted (readAnswer a n)) (eqb a framesAt))
@@ -74,6 +75,7 @@ by-parts d (sample x y z t) = go (accepted (sampleAnswer x y z))
     go true = refl
     go false = refl
 by-parts d cycle = refl
+by-parts d (clock us) = refl
 
 module _ (d : Device) (e : Event) where
   pub regs-next : next d e .regs ≡ bankNext (d .regs) e
@@ -90,9 +92,10 @@ module _ (d : Device) (e : Event) where
 
 -- "None" of 01's column Effect
 pub refused : (d : Device) (e : Event) → accepted (happens d e .answer) ≡ false → next d e ≡ d
-unfolding writeOf readOf sampleOf judgement cycleOf
+unfolding writeOf readOf sampleOf judgement cycleOf clockOf
 refused d powerUp h = cc
 refused d (write a byte) h = device-refused.write-refused d a byte h
 refused d (read a n) h = rw h
 refused d (sample x y z t) h = rw h
 refused d cycle h = cc
+refused d (clock us) h = cc

@@ -1,9 +1,9 @@
 -- What holds after any history: the registers are those that the events alone tell, and a script behind a history is a history.
 -- Assumes nothing.
-use Prim.Native.Nat.{ℕ}
+use Prim.Native.Nat.{ℕ, _+_}
 use mathlib.Core.Bool.{Bool, true, false}
 use mathlib.Core.List.{List, [], _∷_}
-use mathlib.Core.Path.{_≡_, refl, _∙_}
+use mathlib.Core.Path.{_≡_, refl, ap, _∙_}
 use lib.Dec.{ltb}
 use lib.ListN.{length, set, length-set}
 use Rattle.laws.specs.Choice.{pick}
@@ -12,8 +12,11 @@ use Rattle.registers.specs.Deeds.{judgement}
 use Rattle.device.specs.Device as device
 use Rattle.device.specs.Device.{firstBytes}
 use Rattle.device.specs.Write.{regsReset}
-use Rattle.events.specs.Event.{Event, powerUp, write, read, sample, cycle}
-use Rattle.events.specs.Run.{after, scriptOnto, onward}
+use Rattle.device.specs.declared.Device.{Device}
+use Rattle.device.specs.declared.Answered.{Answered}
+use Rattle.device.proofs.Clock.{clock-sum, clock-none}
+use Rattle.events.specs.Event.{Event, powerUp, write, read, sample, cycle, clock}
+use Rattle.events.specs.Run.{next, after, scriptOnto, onward}
 use Rattle.events.specs.Bank.{bankNext, bank}
 use Rattle.events.proofs.Parts.{regs-next}
 
@@ -39,11 +42,19 @@ length-next regs h (write a byte) = let j = judgement regs a byte in go (j .deed
 length-next regs h (read a n) = h
 length-next regs h (sample x y z t) = h
 length-next regs h cycle = h
+length-next regs h (clock us) = h
 
 pub bank-length : (es : List Event) → length (bank es) ≡ 64
 unfolding bank
 bank-length [] = first-length
 bank-length (e ∷ es) = length-next (bank es) (bank-length es) e
+
+-- ---- Q-4: "Two clock events in a row equal one of their sum", and a clock of 0 changes nothing: of every device, not only what it answers
+pub two-clocks : (a b : ℕ) (d : Device) → next (next d (clock a)) (clock b) ≡ next d (clock (a + b))
+two-clocks a b d = ap (λ (x : Answered). x .device) (clock-sum a b d)
+
+pub clock-of-0 : (d : Device) → next d (clock 0) ≡ d
+clock-of-0 d = clock-none d
 
 -- ---- scripts
 pub onward-after : (h es : List Event) → onward (after h) es ≡ after (scriptOnto es h)

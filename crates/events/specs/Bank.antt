@@ -5,7 +5,7 @@ use lib.ListN.{getD}
 use Rattle.registers.specs.Deeds.{judgement}
 use Rattle.device.specs.Device.{firstBytes}
 use Rattle.device.specs.Write.{regsWritten}
-use Rattle.events.specs.Event.{Event, powerUp, write, read, sample, cycle}
+use Rattle.events.specs.Event.{Event, powerUp, write, read, sample, cycle, clock}
 
 -- the registers after an event, from the registers before it: only power-up and a write touch them
 abbrev pub bankNext : List ℕ → Event → List ℕ
@@ -14,6 +14,7 @@ bankNext regs (write a byte) = let j = judgement regs a byte in regsWritten (j .
 bankNext regs (read a n) = regs
 bankNext regs (sample x y z temperature) = regs
 bankNext regs cycle = regs
+bankNext regs (clock us) = regs
 
 -- the registers after a history, whose latest event stands first
 unfoldable pub bank : List Event → List ℕ

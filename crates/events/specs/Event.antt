@@ -10,11 +10,12 @@ use Rattle.device.specs.Device as device
 use Rattle.device.specs.Write.{writeOf}
 use Rattle.device.specs.Read.{readOf, burstBytes}
 use Rattle.device.specs.Sample.{sampleOf, cycleOf}
+use Rattle.device.specs.Clock.{clockOf}
 use Rattle.device.specs.declared.Device.{Device}
 use Rattle.device.specs.declared.Answered.{Answered}
 
 -- "Five things act on it: power-up, a register write, a burst read into a lent buffer, a sample (x, y, z and temperature) and the
--- start of an acquisition cycle"
+-- start of an acquisition cycle"; and by Q-4 "a clock event with a 32-bit count of microseconds"
 pub data Event : Type 0 where
   powerUp : Event
   -- an address and a byte
@@ -24,6 +25,8 @@ pub data Event : Type 0 where
   -- x, y, z and the temperature
   sample : ℤ → ℤ → ℤ → ℕ → Event
   cycle : Event
+  -- microseconds
+  clock : ℕ → Event
 
 -- an event, as the device's contracts have it
 abbrev pub happens : Device → Event → Answered
@@ -32,6 +35,7 @@ happens d (write a byte) = writeOf d a byte
 happens d (read a n) = readOf d a n
 happens d (sample x y z temperature) = sampleOf d x y z temperature
 happens d cycle = cycleOf d
+happens d (clock us) = clockOf d us
 
 -- the bytes of an accepted read
 abbrev pub bytesAt : Device → Event → List ℕ
@@ -40,6 +44,7 @@ bytesAt d (write a byte) = []
 bytesAt d (read a n) = pick (accepted (readAnswer a n)) (burstBytes d a n) []
 bytesAt d (sample x y z temperature) = []
 bytesAt d cycle = []
+bytesAt d (clock us) = []
 
 -- what an event gives: its number, and the bytes of an accepted read
 pub record Given : Type 0 where

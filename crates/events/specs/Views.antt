@@ -3,7 +3,7 @@
 use Prim.Native.Nat.{ℕ}
 use mathlib.Core.Bool.{Bool, true, false}
 use lib.IntN.{ℤ}
-use Rattle.events.specs.Event.{Event, powerUp, write, read, sample, cycle}
+use Rattle.events.specs.Event.{Event, powerUp, write, read, sample, cycle, clock}
 
 abbrev pub isPowerUp : Event → Bool
 isPowerUp powerUp = true
@@ -11,6 +11,7 @@ isPowerUp (write a byte) = false
 isPowerUp (read a n) = false
 isPowerUp (sample x y z temperature) = false
 isPowerUp cycle = false
+isPowerUp (clock us) = false
 
 abbrev pub isCycle : Event → Bool
 isCycle powerUp = false
@@ -18,6 +19,7 @@ isCycle (write a byte) = false
 isCycle (read a n) = false
 isCycle (sample x y z temperature) = false
 isCycle cycle = true
+isCycle (clock us) = false
 
 module _ {A : Type 0} (other : A) where
   -- an address and a byte
@@ -27,6 +29,7 @@ module _ {A : Type 0} (other : A) where
   atWrite f (read a n) = other
   atWrite f (sample x y z temperature) = other
   atWrite f cycle = other
+  atWrite f (clock us) = other
 
   -- an address and a length
   abbrev pub atRead : (ℕ → ℕ → A) → Event → A
@@ -35,6 +38,7 @@ module _ {A : Type 0} (other : A) where
   atRead f (read a n) = f a n
   atRead f (sample x y z temperature) = other
   atRead f cycle = other
+  atRead f (clock us) = other
 
   -- x, y, z and the temperature
   abbrev pub atSample : (ℤ → ℤ → ℤ → ℕ → A) → Event → A
@@ -43,3 +47,13 @@ module _ {A : Type 0} (other : A) where
   atSample f (read a n) = other
   atSample f (sample x y z temperature) = f x y z temperature
   atSample f cycle = other
+  atSample f (clock us) = other
+
+  -- microseconds
+  abbrev pub atClock : (ℕ → A) → Event → A
+  atClock f powerUp = other
+  atClock f (write a byte) = other
+  atClock f (read a n) = other
+  atClock f (sample x y z temperature) = other
+  atClock f cycle = other
+  atClock f (clock us) = f us

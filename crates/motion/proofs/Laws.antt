@@ -19,13 +19,13 @@ use Rattle.motion.specs.declared.Motion.{Motion}
 use Rattle.motion.specs.declared.Settings.{Settings}
 
 -- ---- the status
-pub over-status : (n axis : ℕ) (falling : Bool) (m : Motion) → afterOver n axis falling m .alarm .status ≡ either (m .alarm .status) (leb n (overRun n (m .runs) .over))
+pub over-status : (n axis : ℕ) (falling : Bool) (hold : ℕ) (m : Motion) → afterOver n axis falling hold m .alarm .status ≡ either (m .alarm .status) (leb n (overRun n (m .runs) .over))
 unfolding afterOver
-over-status n axis falling m = go (leb n (overRun n (m .runs) .over)) (m .alarm .status) refl
+over-status n axis falling hold m = go (leb n (overRun n (m .runs) .over)) (m .alarm .status) refl
   where
-    go : (b t : Bool) → m .alarm .status ≡ t → pick b (raised axis falling (m .alarm)) (m .alarm) .status ≡ either t b
-    go true true h = raised-status axis falling (m .alarm)
-    go true false h = raised-status axis falling (m .alarm)
+    go : (b t : Bool) → m .alarm .status ≡ t → pick b (raised axis falling hold (m .alarm)) (m .alarm) .status ≡ either t b
+    go true true h = raised-status axis falling hold (m .alarm)
+    go true false h = raised-status axis falling hold (m .alarm)
     go false true h = h
     go false false h = h
 
@@ -72,7 +72,7 @@ marked-point s Calm m n h =
     marked-either clears (cleared (m .alarm)) (m .alarm) (cleared-marked (m .alarm)) h
 marked-point s (Over axis falling) m n h =
     let sets : Bool = leb (pointsNeeded s) (overRun (pointsNeeded s) (m .runs) .over) in
-    marked-either sets (raised axis falling (m .alarm)) (m .alarm) (raised-marked axis falling (m .alarm) n h) h
+    marked-either sets (raised axis falling (s .hold) (m .alarm)) (m .alarm) (raised-marked axis falling (s .hold) (m .alarm) n h) h
 
 pub marked-quiet : Marked (quiet .alarm)
 marked-quiet = refl

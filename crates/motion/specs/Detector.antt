@@ -4,13 +4,15 @@ use mathlib.Core.Bool.{Bool, true, false}
 use mathlib.Core.List.{List, [], _∷_}
 use lib.Dec.{leb}
 use Rattle.laws.specs.Choice.{pick, both}
-use Rattle.alarm.specs.Alarm.{off, raised, cleared}
+use Rattle.alarm.specs.Alarm.{off, raised, cleared, lapseOf}
 use Rattle.slopes.specs.Point.{pointOf}
 use Rattle.slopes.specs.Runs.{noRuns, overRun, calmRun, oversInRow, calmsInRow}
 use Rattle.slopes.specs.declared.Slopes.{Slopes}
 use Rattle.slopes.specs.declared.Point.{Point}
 use Rattle.slopes.specs.declared.Point.the-variants.{None, Calm, Over}
 use Rattle.alarm.specs.declared.Alarm.{Alarm}
+use Rattle.alarm.specs.declared.Lapse.{Lapse}
+use Rattle.alarm.specs.declared.Lapse.the-variants.{Stands, Expires}
 use Rattle.motion.specs.declared.Motion.{Motion}
 use Rattle.motion.specs.declared.Settings.{Settings}
 
@@ -22,11 +24,12 @@ quiet = record { runs = noRuns; alarm = off }
 abbrev pub pointsNeeded : Settings → ℕ
 pointsNeeded s = s .points % 4 + 1
 
--- an over point comes, where n in a row are asked for, with the mark of its axis and its sign: "N over points in a row set it"
-unfoldable pub afterOver : ℕ → ℕ → Bool → Motion → Motion
-afterOver n axis falling m =
+-- an over point comes, where n in a row are asked for, with the mark of its axis and its sign: "N over points in a row set it". By Q-4 it is
+-- held then, for hold microseconds, or with 0 for no time
+unfoldable pub afterOver : ℕ → ℕ → Bool → ℕ → Motion → Motion
+afterOver n axis falling hold m =
     let r = overRun n (m .runs) in
-    record { runs = r; alarm = pick (leb n (r .over)) (raised axis falling (m .alarm)) (m .alarm) }
+    record { runs = r; alarm = pick (leb n (r .over)) (raised axis falling hold (m .alarm)) (m .alarm) }
 
 -- a calm point comes: "Non-latched, N calm points in a row clear it"
 unfoldable pub afterCalm : ℕ → Bool → Motion → Motion
@@ -37,7 +40,7 @@ afterCalm n unlatched m =
 abbrev pub afterPoint : Settings → Point → Motion → Motion
 afterPoint s None m = m
 afterPoint s Calm m = afterCalm (pointsNeeded s) (s .unlatched) m
-afterPoint s (Over axis falling) m = afterOver (pointsNeeded s) axis falling m
+afterPoint s (Over axis falling) m = afterOver (pointsNeeded s) axis falling (s .hold) m
 
 -- an accepted sample comes
 unfoldable pub afterSample : Settings → Slopes → Motion → Motion
@@ -46,6 +49,15 @@ afterSample s slopes m = afterPoint s (pointOf (s .axes) (s .threshold) slopes) 
 -- "An accepted write to 0x0F, 0x16, 0x21, 0x27 or 0x28 clears status, marks and runs"
 unfoldable pub restarted : Motion → Motion
 restarted m = record { runs = noRuns; alarm = cleared (m .alarm) }
+
+-- a clock of us microseconds comes. Q-4: "The status clears, with marks and runs, when the clock since its setting reaches that time". Of what
+-- comes after an expiry nothing is left to do here: no time is running then
+abbrev pub afterLapse : Lapse → Motion → Motion
+afterLapse (Stands a) m = record { runs = m .runs; alarm = a }
+afterLapse (Expires rest) m = restarted m
+
+unfoldable pub clocked : ℕ → Motion → Motion
+clocked us m = afterLapse (lapseOf us (m .alarm)) m
 
 -- ---- the alarm from the points alone, the newest first, with no runs
 -- true for an over point, false for a calm one; no point counts nothing
@@ -62,7 +74,7 @@ alarmBy s (None ∷ ps) a = alarmBy s ps a
 alarmBy s (Calm ∷ ps) a =
     pick (both (s .unlatched) (leb (pointsNeeded s) (calmsInRow (false ∷ overOrCalm ps)))) (cleared (alarmBy s ps a)) (alarmBy s ps a)
 alarmBy s (Over axis falling ∷ ps) a =
-    pick (leb (pointsNeeded s) (oversInRow (true ∷ overOrCalm ps))) (raised axis falling (alarmBy s ps a)) (alarmBy s ps a)
+    pick (leb (pointsNeeded s) (oversInRow (true ∷ overOrCalm ps))) (raised axis falling (s .hold) (alarmBy s ps a)) (alarmBy s ps a)
 
 abbrev pub afterPoints : Settings → List Point → Motion → Motion
 afterPoints s [] m = m

@@ -1,19 +1,22 @@
 // The any-motion detector of 01: the points of the slopes, their runs, and an alarm.
 ghost use mathlib.Core.Path.{_≡_};
-ghost use Rattle.motion.specs.Detector.{quiet, pointsNeeded, afterOver, afterCalm, afterSample, restarted};
+ghost use Rattle.motion.specs.Detector.{quiet, pointsNeeded, afterOver, afterCalm, afterSample, restarted, clocked};
 ghost use Rattle.alarm.specs.Alarm.{marksOf};
 use alarm::Alarm;
+use alarm::Lapse;
 use slopes::Point;
 use slopes::Runs;
 use slopes::Slopes;
 use slopes::judge;
 
-// What the registers say: the bytes of 0x16, 0x27 and 0x28, and whether 0x21 is non-latched.
+// What the registers say: the bytes of 0x16, 0x27 and 0x28, whether 0x21 is non-latched, and for how many microseconds it holds a status,
+// 0 for no time.
 pub struct Settings {
     pub axes: u8,
     pub points: u8,
     pub threshold: u8,
     pub unlatched: bool,
+    pub hold: u32,
 }
 
 #[repr(C)]
@@ -78,19 +81,34 @@ impl Motion {
         match point {
             Point::None => self,
             Point::Calm => self.after_calm(n, settings.unlatched),
-            Point::Over(axis, falling) => self.after_over(n, axis, falling),
+            Point::Over(axis, falling) => self.after_over(n, axis, falling, settings.hold),
         }
     }
 
-    fn after_over(mut self, n: u8, axis: u8, falling: bool) -> Self
-        ensures { λ r. ⌜ r ≡ afterOver n axis falling self ⌝ }
+    // A clock of so many microseconds comes. Behind an expiry no time runs here, so what is left of the clock changes nothing more.
+    pub fn clock(mut self, microseconds: u32) -> Self
+        ensures { λ r. ⌜ r ≡ clocked microseconds self ⌝ }
+    {
+        let alarm = self.alarm;
+        let lapse = alarm.clock(microseconds);
+        match lapse {
+            Lapse::Stands(waiting) => {
+                self.alarm = waiting;
+                self
+            }
+            Lapse::Expires(_) => self.restart(),
+        }
+    }
+
+    fn after_over(mut self, n: u8, axis: u8, falling: bool, hold: u32) -> Self
+        ensures { λ r. ⌜ r ≡ afterOver n axis falling hold self ⌝ }
     {
         let runs = self.runs;
         let alarm = self.alarm;
         let longer = runs.after_over(n);
         self.runs = longer;
         if longer.reached_over(n) {
-            self.alarm = alarm.raise(axis, falling);
+            self.alarm = alarm.raise(axis, falling, hold);
         }
         self
     }

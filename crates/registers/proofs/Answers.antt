@@ -8,7 +8,7 @@ use Rattle.laws.proofs.Keys.{any-meaning}
 use Rattle.registers.specs.Answers.{number, accepted}
 use Rattle.registers.specs.Refused.{lacks, lackAt}
 use Rattle.registers.specs.declared.Answer.{Answer}
-use Rattle.registers.specs.declared.Answer.the-variants.{Done, NoAddress, ReservedCode, OutOfRange, BadLength, PastEnd, NoDetector, NoPowerMode, NoTestOrTrim, NoLatchTime}
+use Rattle.registers.specs.declared.Answer.the-variants.{Done, NoAddress, ReservedCode, OutOfRange, BadLength, PastEnd, NoDetector, NoPowerMode, NoTestOrTrim}
 
 pub zero-accepted : (x : Answer) → accepted x ≡ eqb (number x) 0
 zero-accepted Done = refl
@@ -20,12 +20,11 @@ zero-accepted PastEnd = refl
 zero-accepted NoDetector = refl
 zero-accepted NoPowerMode = refl
 zero-accepted NoTestOrTrim = refl
-zero-accepted NoLatchTime = refl
 
--- Q-1: what holds of each of the four holds of what is lacking at any address
-pub lack-any : (P : Answer → Type 0) → P NoDetector → P NoPowerMode → P NoTestOrTrim → P NoLatchTime → (a : ℕ) → P (lackAt a)
+-- Q-1: what holds of each of the three holds of what is lacking at any address
+pub lack-any : (P : Answer → Type 0) → P NoDetector → P NoPowerMode → P NoTestOrTrim → (a : ℕ) → P (lackAt a)
 unfolding lackAt
-lack-any P detector power trim latch a = any-meaning P lacks NoTestOrTrim (power, (detector, (detector, (detector, (latch, tt))))) trim a
+lack-any P detector power trim a = any-meaning P lacks NoTestOrTrim (power, (detector, (detector, (detector, tt)))) trim a
 
 pub lack-refused : (a : ℕ) → accepted (lackAt a) ≡ false
-lack-refused = lack-any (λ x. accepted x ≡ false) refl refl refl refl
+lack-refused = lack-any (λ x. accepted x ≡ false) refl refl refl

@@ -1,8 +1,8 @@
--- 01, "Numbers given back", and Q-1: "3 is never given again"; 11 to 14 stand in its place.
+-- 01, "Numbers given back", and Q-1: "3 is never given again"; 11 to 13 stand in its place. Q-4: "14 is gone".
 use Prim.Native.Nat.{ℕ}
 use mathlib.Core.Bool.{Bool, true, false}
 use Rattle.registers.specs.declared.Answer.{Answer}
-use Rattle.registers.specs.declared.Answer.the-variants.{Done, NoAddress, ReservedCode, OutOfRange, BadLength, PastEnd, NoDetector, NoPowerMode, NoTestOrTrim, NoLatchTime}
+use Rattle.registers.specs.declared.Answer.the-variants.{Done, NoAddress, ReservedCode, OutOfRange, BadLength, PastEnd, NoDetector, NoPowerMode, NoTestOrTrim}
 
 abbrev pub number : Answer → ℕ
 number Done = 0
@@ -14,7 +14,6 @@ number PastEnd = 6
 number NoDetector = 11
 number NoPowerMode = 12
 number NoTestOrTrim = 13
-number NoLatchTime = 14
 
 -- which of them it is, in the order of their numbers
 abbrev pub place : Answer → ℕ
@@ -27,7 +26,6 @@ place PastEnd = 5
 place NoDetector = 6
 place NoPowerMode = 7
 place NoTestOrTrim = 8
-place NoLatchTime = 9
 
 abbrev pub accepted : Answer → Bool
 accepted Done = true
@@ -39,4 +37,3 @@ accepted PastEnd = false
 accepted NoDetector = false
 accepted NoPowerMode = false
 accepted NoTestOrTrim = false
-accepted NoLatchTime = false

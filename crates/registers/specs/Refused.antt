@@ -7,14 +7,13 @@ use lib.Bits.{bitAnd}
 use Rattle.laws.specs.Choice.{pick, both, either}
 use Rattle.laws.specs.Keys.{Key, _means_, meaningOf}
 use Rattle.laws.specs.Refusals.{Row, row, first}
-use Rattle.codes.specs.Addresses.{rangeAt, powerAt, axesAt, enablesAt, slowAt, latchAt, controlAt, framesAt}
+use Rattle.codes.specs.Addresses.{rangeAt, powerAt, axesAt, enablesAt, slowAt, controlAt, framesAt}
 use Rattle.codes.specs.Range.{rangeOf, isReservedRange}
-use Rattle.codes.specs.Latch.{latchOf, isModelled}
 use Rattle.codes.specs.Mode.{modeOf, isReservedMode}
 use Rattle.table.specs.Rows.{rowAt}
 use Rattle.table.specs.declared.Row as table
 use Rattle.registers.specs.declared.Answer.{Answer}
-use Rattle.registers.specs.declared.Answer.the-variants.{Done, NoAddress, ReservedCode, BadLength, PastEnd, NoDetector, NoPowerMode, NoTestOrTrim, NoLatchTime}
+use Rattle.registers.specs.declared.Answer.the-variants.{Done, NoAddress, ReservedCode, BadLength, PastEnd, NoDetector, NoPowerMode, NoTestOrTrim}
 
 -- the longest read
 abbrev pub longestRead : ℕ
@@ -30,15 +29,15 @@ reservedCode regs a b =
     (pick (eqb a controlAt) (isReservedMode (modeOf b))
     false)
 
--- "write of a setting not modelled here"
+-- "write of a setting not modelled here": a 1 in a bit that the row names. Of 0x21 no code is among them: Q-4, "14 is gone"
 unfoldable pub notModelled : List ℕ → table.Row → ℕ → ℕ → Bool
-notModelled regs r a b = pick (eqb a latchAt) (not (isModelled (latchOf b))) (not (eqb (bitAnd b (r .2)) 0))
+notModelled regs r a b = not (eqb (bitAnd b (r .2)) 0)
 
 -- Q-1, "Tell me which kind of thing the twin lacks .. Split it by register": "11 a detector bit in 0x16 to 0x18; 12 a power mode in
--- 0x11; 13 self-test, memory, calibration or offset in 0x32, 0x33, 0x36, 0x38 to 0x3A; 14 a latch time in 0x21". 13 has the other
--- registers of which something is refused
+-- 0x11; 13 self-test, memory, calibration or offset in 0x32, 0x33, 0x36, 0x38 to 0x3A". 13 has the other registers of which something
+-- is refused
 abbrev pub lacks : List (Key Answer)
-lacks = powerAt means NoPowerMode ∷ axesAt means NoDetector ∷ enablesAt means NoDetector ∷ slowAt means NoDetector ∷ latchAt means NoLatchTime ∷ []
+lacks = powerAt means NoPowerMode ∷ axesAt means NoDetector ∷ enablesAt means NoDetector ∷ slowAt means NoDetector ∷ []
 
 unfoldable pub lackAt : ℕ → Answer
 lackAt a = meaningOf lacks NoTestOrTrim a

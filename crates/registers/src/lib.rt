@@ -16,10 +16,8 @@ use codes::RESET_AT;
 use codes::SHADOW_AT;
 use codes::SLOW_AT;
 use codes::THRESHOLD_AT;
-use codes::is_modelled;
 use codes::is_reserved_mode;
 use codes::is_reserved_range;
-use codes::latch_of;
 use codes::mode_of;
 use codes::range_of;
 use laws::bit;
@@ -34,7 +32,7 @@ pub const LONGEST_READ: usize = 192;
 // The byte that at 0x14 is a soft reset.
 pub const SOFT_RESET: u8 = 0xB6;
 
-// What an event is answered; `number_of` gives its number. The last four name what the twin lacks; the third of them is self-test, memory,
+// What an event is answered; `number_of` gives its number. The last three name what the twin lacks; the third of them is self-test, memory,
 // calibration or offset.
 pub enum Answer {
     Done,
@@ -46,7 +44,6 @@ pub enum Answer {
     NoDetector,
     NoPowerMode,
     NoTestOrTrim,
-    NoLatchTime,
 }
 
 // What a write does: its byte is stored; the FIFO is emptied and its overrun cleared; the locks are released; the previous sample is
@@ -91,11 +88,10 @@ fn place_of(answer: Answer) -> u8
         Answer::NoDetector => 6,
         Answer::NoPowerMode => 7,
         Answer::NoTestOrTrim => 8,
-        Answer::NoLatchTime => 9,
     }
 }
 
-// The number: 0 to 2, 4 to 6 and 11 to 14. A match that gave these themselves would be compiled to a table, and the entry for C would
+// The number: 0 to 2, 4 to 6 and 11 to 13. A match that gave these themselves would be compiled to a table, and the entry for C would
 // then copy the device once more at each event.
 pub fn number_of(answer: Answer) -> u8
     ensures { λ r. ⌜ r ≡ number answer ⌝ }
@@ -123,7 +119,6 @@ pub fn is_accepted(answer: Answer) -> bool
         Answer::NoDetector => false,
         Answer::NoPowerMode => false,
         Answer::NoTestOrTrim => false,
-        Answer::NoLatchTime => false,
     }
 }
 
@@ -143,9 +138,6 @@ fn is_reserved_code(regs: &[u8; 64], address: u8, byte: u8) -> bool
 fn is_not_modelled(regs: &[u8; 64], row: Row, address: u8, byte: u8) -> bool
     ensures { λ r. ⌜ r ≡ notModelled (now (regs .entry)) row address byte ⌝ }
 {
-    if address as usize == LATCH_AT {
-        return !is_modelled(latch_of(byte));
-    }
     byte & row.2 != 0
 }
 
@@ -159,7 +151,6 @@ fn lack_at(address: u8) -> Answer
         AXES_AT => Answer::NoDetector,
         ENABLES_AT => Answer::NoDetector,
         SLOW_AT => Answer::NoDetector,
-        LATCH_AT => Answer::NoLatchTime,
         _ => Answer::NoTestOrTrim,
     }
 }

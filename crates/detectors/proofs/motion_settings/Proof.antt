@@ -7,9 +7,12 @@ motion-settings-spec =
     tie.close
     (tie.spec
     (λ c. search needs)
+    (λ c κs. tt)
     (λ c. search needs)
     (λ c. search needs)
     (λ c. search needs)
     (λ c κs. tt)
     (λ c κs. tt)
-    (λ c. simp (c .is-unlatched .ensures, c .before .latch-of .ensures)))
+    (λ c.
+    let u = c .before in
+    simp (c .hold-of .ensures, u .is-unlatched .ensures, u .before .before .before .before .latch-of .ensures)))

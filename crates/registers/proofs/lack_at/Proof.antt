@@ -12,5 +12,4 @@ lack-at-spec =
     (λ c. simp (c .match .keys2))
     (λ c. simp (c .match .keys3))
     (λ c. simp (c .match .keys4))
-    (λ c. simp (c .match .keys5))
     (λ c. rest _ lacks _ _ (c .match .rest)))

@@ -6,7 +6,7 @@ use lib.Dec.{ltb}
 use Rattle.laws.specs.Choice.{pick}
 use Rattle.registers.specs.Answers.{number, place}
 use Rattle.registers.specs.declared.Answer.{Answer}
-use Rattle.registers.specs.declared.Answer.the-variants.{Done, NoAddress, ReservedCode, OutOfRange, BadLength, PastEnd, NoDetector, NoPowerMode, NoTestOrTrim, NoLatchTime}
+use Rattle.registers.specs.declared.Answer.the-variants.{Done, NoAddress, ReservedCode, OutOfRange, BadLength, PastEnd, NoDetector, NoPowerMode, NoTestOrTrim}
 use Rattle.registers.proofs.number_of.Statement.{statement}
 use Rattle.registers.proofs.number_of.Tie as tie
 
@@ -24,9 +24,8 @@ at-place PastEnd = refl
 at-place NoDetector = refl
 at-place NoPowerMode = refl
 at-place NoTestOrTrim = refl
-at-place NoLatchTime = refl
 
-few : (x : Answer) → place x < 10
+few : (x : Answer) → place x < 9
 few Done = omega arith
 few NoAddress = omega arith
 few ReservedCode = omega arith
@@ -36,7 +35,6 @@ few PastEnd = omega arith
 few NoDetector = omega arith
 few NoPowerMode = omega arith
 few NoTestOrTrim = omega arith
-few NoLatchTime = omega arith
 
 pub number-of-spec : {M : Type 1} → statement M
 number-of-spec =
