@@ -5,4 +5,5 @@ pub mod Detector
 pub mod Promise
 pub mod Setter
 pub mod Stays
+pub mod Held
 pub mod Rows

@@ -1,9 +1,10 @@
 -- The point that the detector sees is 01's, and the detector after it is the one that looking back on the points tells. Assumes nothing.
-use Prim.Native.Nat.{ℕ, zero, suc, _*_, _^_}
+use Prim.Native.Nat.{ℕ, zero, suc, _-_, _*_, _^_}
 use mathlib.Core.Bool.{Bool, true, false, not}
 use mathlib.Core.List.{List, [], _∷_, _++_, map}
-use mathlib.Core.Path.{_≡_, refl}
+use mathlib.Core.Path.{_≡_, refl, ap}
 use native.Mathlib.Numerals.{add-one}
+use native.Mathlib.Omega.{arith}
 use lib.Dec.{leb, ltb, leb·zero, leb·suc-zero, leb·suc-suc}
 use lib.IntN.{ℤ, pos, _-ℤ_, natAbs}
 use lib.Signed.{ltZ}
@@ -111,35 +112,44 @@ calms-last (suc n) [] = leb·suc-zero n
 calms-last (suc n) ([] ∷ ps) = rw (add-one (calmsInRow (map isOver ps)), leb·suc-suc n (calmsInRow (map isOver ps))) (calms-last n ps)
 calms-last (suc n) ((a ∷ axes) ∷ ps) = leb·suc-zero n
 
--- ---- the detector, where n in a row are asked for, after these points and with these axes marked
-abbrev pub alarmBy : Bool → List Axis → Alarm
-alarmBy status marked = record { status = status; mark = pick status (markOf marked) 0; negative = signOf marked }
+-- ---- the detector, where n in a row are asked for and the status is held for hold microseconds, after these points, with these axes marked,
+-- and with so much clock since its setting
+abbrev pub alarmBy : Bool → List Axis → ℕ → Alarm
+alarmBy status marked left = record { status = status; mark = pick status (markOf marked) 0; negative = signOf marked; remaining = pick status left 0 }
 
-abbrev pub motionBy : ℕ → Bool → List OverAxes → List Axis → Motion
-motionBy n nonLatched ps marked = record { runs = runsAfter n (map isOver ps); alarm = alarmBy (isSetBy n nonLatched ps) marked }
+abbrev pub motionBy : ℕ → Bool → ℕ → List OverAxes → List Axis → ℕ → Motion
+motionBy n nonLatched hold ps marked since = record { runs = runsAfter n (map isOver ps); alarm = alarmBy (isSetBy n nonLatched ps) marked (hold - since) }
 
-module _ (k : ℕ) (nonLatched : Bool) (ps : List OverAxes) (marked : List Axis) where
+module _ (k : ℕ) (nonLatched : Bool) (hold : ℕ) (ps : List OverAxes) (marked : List Axis) (since : ℕ) where
   abbrev n : ℕ
   n = suc k
 
-  -- the axes marked after one more point
-  abbrev pub markedOn : OverAxes → List Axis
-  markedOn p = pick (both (not (isSetBy n nonLatched ps)) (isSetBy n nonLatched (p ∷ ps))) (firstAxis (p ∷ ps) ++ marked) marked
+  -- one more point sets the status
+  abbrev setsOn : OverAxes → Bool
+  setsOn p = both (not (isSetBy n nonLatched ps)) (isSetBy n nonLatched (p ∷ ps))
 
-  calm-next : afterCalm n nonLatched (motionBy n nonLatched ps marked) ≡ motionBy n nonLatched ([] ∷ ps) (markedOn [])
+  -- the axes marked after it, and the clock since the setting
+  abbrev pub markedOn : OverAxes → List Axis
+  markedOn p = pick (setsOn p) (firstAxis (p ∷ ps) ++ marked) marked
+
+  abbrev pub sinceOn : OverAxes → ℕ
+  sinceOn p = pick (setsOn p) 0 since
+
+  calm-next : afterCalm n nonLatched (motionBy n nonLatched hold ps marked since) ≡ motionBy n nonLatched hold ([] ∷ ps) (markedOn []) (sinceOn [])
   unfolding afterCalm isSetBy
   calm-next = rw (calms-reached n (map isOver ([] ∷ ps)), calms-last n ([] ∷ ps)) (go (both nonLatched (lastAre isCalm k ps)) (isSetBy n nonLatched ps))
     where
       go : (c t : Bool)
-          → _≡_ {A = Motion} (record { runs = calmRun n (runsAfter n (map isOver ps)); alarm = pick c (cleared (alarmBy t marked)) (alarmBy t marked) })
-          (record { runs = calmRun n (runsAfter n (map isOver ps)); alarm = alarmBy (pick c false t) (pick (both (not t) (pick c false t)) marked marked) })
+          → _≡_ {A = Motion} (record { runs = calmRun n (runsAfter n (map isOver ps)); alarm = pick c (cleared (alarmBy t marked (hold - since))) (alarmBy t marked (hold - since)) })
+          (record { runs = calmRun n (runsAfter n (map isOver ps)); alarm = alarmBy (pick c false t) (pick (both (not t) (pick c false t)) marked marked) (hold - pick (both (not t) (pick c false t)) 0 since) })
       go true true = refl
       go true false = refl
       go false true = refl
       go false false = refl
 
   over-next : (a : Axis) (axes : List Axis)
-      → afterOver n (2 ^ (a .place)) (ltZ (a .difference) (pos 0)) (motionBy n nonLatched ps marked) ≡ motionBy n nonLatched ((a ∷ axes) ∷ ps) (markedOn (a ∷ axes))
+      → afterOver n (2 ^ (a .place)) (ltZ (a .difference) (pos 0)) hold (motionBy n nonLatched hold ps marked since)
+      ≡ motionBy n nonLatched hold ((a ∷ axes) ∷ ps) (markedOn (a ∷ axes)) (sinceOn (a ∷ axes))
   unfolding afterOver isSetBy
   over-next a axes = rw (overs-reached n (map isOver ((a ∷ axes) ∷ ps)), overs-last n ((a ∷ axes) ∷ ps)) (go (lastAre isOver k ps) nonLatched (isSetBy n nonLatched ps))
     where
@@ -150,18 +160,21 @@ module _ (k : ℕ) (nonLatched : Bool) (ps : List OverAxes) (marked : List Axis)
       falls = ltZ (a .difference) (pos 0)
 
       go : (o u t : Bool)
-          → _≡_ {A = Motion} (record { runs = overRun n (runsAfter n (map isOver ps)); alarm = pick o (raised axis falls (alarmBy t marked)) (alarmBy t marked) })
+          → _≡_ {A = Motion} (record { runs = overRun n (runsAfter n (map isOver ps)); alarm = pick o (raised axis falls hold (alarmBy t marked (hold - since))) (alarmBy t marked (hold - since)) })
           (record {
             runs = overRun n (runsAfter n (map isOver ps));
-            alarm = alarmBy (pick o true (pick (both u false) false t)) (pick (both (not t) (pick o true (pick (both u false) false t))) (a ∷ marked) marked);
+            alarm =
+                let sets = both (not t) (pick o true (pick (both u false) false t)) in
+                alarmBy (pick o true (pick (both u false) false t)) (pick sets (a ∷ marked) marked) (hold - pick sets 0 since);
           })
       go true u true = refl
-      go true u false = refl
+      go true u false = ap (λ (left : ℕ). record { runs = overRun n (runsAfter n (map isOver ps)); alarm = alarmBy true (a ∷ marked) left }) (omega arith)
       go false true true = refl
       go false true false = refl
       go false false true = refl
       go false false false = refl
 
-  pub point-next : (p : OverAxes) (s : Settings) → pointsNeeded s ≡ n → s .unlatched ≡ nonLatched → afterPoint s (asPoint p) (motionBy n nonLatched ps marked) ≡ motionBy n nonLatched (p ∷ ps) (markedOn p)
-  point-next [] s e f = rw (e, f) calm-next
-  point-next (a ∷ axes) s e f = rw e (over-next a axes)
+  pub point-next : (p : OverAxes) (s : Settings) → pointsNeeded s ≡ n → s .unlatched ≡ nonLatched → s .hold ≡ hold
+      → afterPoint s (asPoint p) (motionBy n nonLatched hold ps marked since) ≡ motionBy n nonLatched hold (p ∷ ps) (markedOn p) (sinceOn p)
+  point-next [] s e f g = rw (e, f) calm-next
+  point-next (a ∷ axes) s e f g = rw (e, g) (over-next a axes)

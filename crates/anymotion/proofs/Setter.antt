@@ -9,12 +9,12 @@ use lib.ListN.{take, drop, take-append-drop}
 use Rattle.laws.specs.Choice.{pick, both}
 use Rattle.events.specs.Event.{Event, bytes}
 use Rattle.anymotion.specs.InForce.{inForce, pointsAsked, isNonLatched, restarts, brings}
-use Rattle.anymotion.specs.Points.{Axis, OverAxes, samples, pointAt, points}
-use Rattle.anymotion.specs.Status.{isOver, isCalm, lastAre, isSetBy, isSet, InRow, CameInRow}
+use Rattle.anymotion.specs.Points.{Axis, OverAxes, samples, pointAt}
+use Rattle.anymotion.specs.Status.{isOver, isCalm, lastAre, isSetBy, points, isSet, expires, InRow, CameInRow}
 use Rattle.anymotion.specs.Marks.{firstAxis, markOf, signOf, markedAxes, marksByte, SetAt, marksAt}
 use Rattle.anymotion.proofs.Split.{taken-many, taken-all, none-in-none, further, front-or-within, last-longer, set-when}
 use Rattle.anymotion.proofs.Points.{OneOrNone, one-or-none}
-use Rattle.anymotion.proofs.Detector.{lessOne, asked-is, latch-kept, points-kept, marked-kept}
+use Rattle.anymotion.proofs.Detector.{lessOne, asked-is, latch-kept, points-kept, marked-kept, first-unset, expiry-clears}
 use Rattle.anymotion.proofs.Settings.{in-force-kept}
 use Rattle.anymotion.proofs.Stays.{restart-clears}
 use Rattle.anymotion.proofs.Promise.{reads, reads-status, reads-marks, shown}
@@ -152,20 +152,23 @@ module _ (es : List Event) (e : Event) (same : restarts es e ≡ false) (before 
 
 marked-next : (es : List Event) (e : Event) → Marked es → Marked (e ∷ es)
 unfolding pointAt
-marked-next es e before = go (restarts es e) refl
+marked-next es e before = go (restarts es e) refl (expires es e) refl
   where
-    kept : restarts es e ≡ false → (q : List OverAxes) → OneOrNone q → pointAt es e ≡ q → Marked (e ∷ es)
-    kept same [] o f = nothing-marked es e same before (points-kept es e same ∙ rw f)
-    kept same (p ∷ []) o f = one-marked es e same before p (points-kept es e same ∙ rw f)
-    kept same (p ∷ (r ∷ q)) o f = absurd o
+    unset : isSet (e ∷ es) ≡ false → Marked (e ∷ es)
+    unset n = λ h. let z : _≡_ {A = ℕ} 0 1 = cc in absurd (omega arith)
 
-    go : (t : Bool) → restarts es e ≡ t → Marked (e ∷ es)
-    go true r = λ h. let n = restart-clears es e r in let z : _≡_ {A = ℕ} 0 1 = cc in absurd (omega arith)
-    go false r = kept r (pointAt es e) (one-or-none (inForce es 0x16) (inForce es 0x28) (brings e) (samples es)) refl
+    kept : restarts es e ≡ false → expires es e ≡ false → (q : List OverAxes) → OneOrNone q → pointAt es e ≡ q → Marked (e ∷ es)
+    kept same lasts [] o f = nothing-marked es e same before (points-kept es e same lasts ∙ rw f)
+    kept same lasts (p ∷ []) o f = one-marked es e same before p (points-kept es e same lasts ∙ rw f)
+    kept same lasts (p ∷ (r ∷ q)) o f = absurd o
+
+    go : (t : Bool) → restarts es e ≡ t → (x : Bool) → expires es e ≡ x → Marked (e ∷ es)
+    go true r x f = unset (restart-clears es e r)
+    go false r true f = unset (expiry-clears es e f)
+    go false r false f = kept r f (pointAt es e) (one-or-none (inForce es 0x16) (inForce es 0x28) (brings e) (samples es)) refl
 
 marked-all : (es : List Event) → Marked es
-unfolding isSetBy points
-marked-all [] = λ h. let z : _≡_ {A = ℕ} 0 1 = cc in absurd (omega arith)
+marked-all [] = λ h. let n = first-unset in let z : _≡_ {A = ℕ} 0 1 = cc in absurd (omega arith)
 marked-all (e ∷ es) = marked-next es e (marked-all es)
 
 module _ (es : List Event) where

@@ -1,20 +1,20 @@
 -- What the device goes by is what 01 names: the codes of 0x21, the axes of 0x16, the samples of -2048..2047, and the writes that clear or
 -- forget. Assumes nothing.
-use Prim.Native.Nat.{ℕ, _/_, _%_, _^_}
+use Prim.Native.Nat.{ℕ, _/_, _%_, _^_, _≤_}
 use mathlib.Core.Bool.{Bool, true, false, not}
 use mathlib.Core.List.{List, [], _∷_}
-use mathlib.Core.Path.{_≡_, refl, ap, _∙_}
+use mathlib.Core.Path.{_≡_, refl, sym, ap, _∙_}
 use native.Mathlib.Omega.{arith}
-use borrow.Author.Tests.{eqb-true, leb-true, leb-false, le-ltb, lt-ltb}
+use borrow.Author.Tests.{eqb-true, le-leb, leb-true, leb-false, le-ltb, lt-ltb}
 use lib.Dec.{eqb, leb, ltb, leb·suc-suc}
 use lib.IntN.{ℤ, pos, negsuc}
 use lib.ListN.{getD}
 use Rattle.laws.specs.Choice.{pick, both, either}
 use Rattle.laws.specs.Bits.{bit}
 use Rattle.laws.specs.Lists.{isIn}
+use Rattle.laws.specs.Table.{upFrom}
 use Rattle.laws.proofs.Finite.{of-pick, alike, left, right}
-use Rattle.codes.specs.Latch.{latchOf, isModelled, isUnlatched}
-use Rattle.codes.specs.declared.Latch.the-variants.{Unlatched, Latched, Timed}
+use Rattle.codes.specs.Latch.{latchOf, isUnlatched, holdOf}
 use Rattle.channels.specs.Codes.{inRange}
 use Rattle.slopes.specs.Point.{noAxis}
 use Rattle.table.specs.Rows.{rowAt, merged}
@@ -24,47 +24,51 @@ use Rattle.registers.specs.declared.Answer.the-variants.{Done, OutOfRange}
 use Rattle.registers.specs.declared.Deeds.{Deeds}
 use Rattle.device.specs.Device.{firstBytes}
 use Rattle.device.specs.Sample.{sampleAnswer}
-use Rattle.events.specs.Event.{Event, powerUp, write, read, sample, cycle}
+use Rattle.events.specs.Event.{Event, powerUp, write, read, sample, cycle, clock}
 use Rattle.events.specs.Bank.{bank}
 use Rattle.events.proofs.Runs.{bank-length}
 use Rattle.rules.specs.Proper.{isStored, spared}
 use Rattle.rules.proofs.Writes.{byte-written}
-use Rattle.rules.proofs.Registers.{latch-known}
-use Rattle.anymotion.specs.InForce.{inForce, isTaken, meansNonLatched, meansLatched, isNonLatched, isLatched, clearing, restarts, forgetting, fits}
+use Rattle.anymotion.specs.InForce.{inForce, isTaken, meansNonLatched, meansLatched, timeOfCode, meansTime, isNonLatched, isLatched, timeAsked, clearing, restarts, forgetting, fits}
 use Rattle.anymotion.specs.Points.{anyEnabled}
 
 -- ---- 0x21
 module _ (byte : ℕ) where
+  -- what is alike of each of the sixteen codes is alike of the byte
+  of-code : {A : Type 0} (f g : ℕ → A) → upFrom f 0 16 ≡ upFrom g 0 16 → f (byte % 16) ≡ g (byte % 16)
+  of-code f g e = alike f g 16 e (byte % 16) (omega arith)
+
+  low : latchOf byte ≡ latchOf (byte % 16)
+  unfolding latchOf
+  low = let e : byte % 16 % 16 ≡ byte % 16 = omega arith in rw e
+
   pub latch-is : isUnlatched (latchOf byte) ≡ meansNonLatched byte
   unfolding latchOf
-  latch-is = go (eqb (byte % 16) 0) (eqb (byte % 16) 8) (eqb (byte % 16) 7) (eqb (byte % 16) 15)
-    where
-      go : (a b c d : Bool) → isUnlatched (pick a Unlatched (pick b Unlatched (pick c Latched (pick d Latched Timed)))) ≡ either a (either b false)
-      go true b c d = refl
-      go false true c d = refl
-      go false false true d = refl
-      go false false false true = refl
-      go false false false false = refl
+  latch-is = ap isUnlatched low ∙ of-code (λ code. isUnlatched (latchOf code)) (isIn (0b0000 ∷ 0b1000 ∷ [])) refl
 
-  one-latch : isModelled (latchOf byte) ≡ true → meansLatched byte ≡ not (meansNonLatched byte)
+  -- Q-4: "Codes 0001 to 0110 hold for 250 ms, 500 ms, ..": the table of codes has these times
+  pub hold-is : holdOf (latchOf byte) ≡ meansTime byte
   unfolding latchOf
-  one-latch = go (eqb (byte % 16) 0) refl (eqb (byte % 16) 8) refl (eqb (byte % 16) 7) refl (eqb (byte % 16) 15) refl
+  hold-is = ap holdOf low ∙ of-code (λ code. holdOf (latchOf code)) timeOfCode refl
+
+  one-latch : meansLatched byte ≡ not (either (meansNonLatched byte) (leb 1 (meansTime byte)))
+  one-latch = of-code (isIn (0b0111 ∷ 0b1111 ∷ [])) (λ code. not (either (isIn (0b0000 ∷ 0b1000 ∷ []) code) (leb 1 (timeOfCode code)))) refl
+
+  not-both : both (meansNonLatched byte) (leb 1 (meansTime byte)) ≡ false
+  not-both = of-code (λ code. both (isIn (0b0000 ∷ 0b1000 ∷ []) code) (leb 1 (timeOfCode code))) (λ code. false) refl
+
+module _ (es : List Event) where
+  -- "low nibble 0000 and 1000 non-latched, 0111 and 1111 latched", and Q-4's codes for a time: at any time it is one of the three
+  pub latched-or-not : isLatched es ≡ not (either (isNonLatched es) (leb 1 (timeAsked es)))
+  latched-or-not = one-latch (inForce es 0x21)
+
+  -- and what is held for a time is not non-latched
+  pub timed-holds : 1 ≤ timeAsked es → isNonLatched es ≡ false
+  timed-holds h = go (isNonLatched es) (leb 1 (timeAsked es)) (le-leb 1 (timeAsked es) h) (not-both (inForce es 0x21))
     where
-      -- where the nibble is k
-      only : (k : ℕ) → byte % 16 ≡ k → isIn (0b0111 ∷ 0b1111 ∷ []) k ≡ not (isIn (0b0000 ∷ 0b1000 ∷ []) k) → meansLatched byte ≡ not (meansNonLatched byte)
-      only k e h = rw e h
-
-      go : (a : Bool) → eqb (byte % 16) 0 ≡ a → (b : Bool) → eqb (byte % 16) 8 ≡ b → (c : Bool) → eqb (byte % 16) 7 ≡ c → (d : Bool) → eqb (byte % 16) 15 ≡ d
-          → isModelled (pick a Unlatched (pick b Unlatched (pick c Latched (pick d Latched Timed)))) ≡ true → meansLatched byte ≡ not (meansNonLatched byte)
-      go true e b f c g d h m = only 0 (eqb-true _ 0 e) refl
-      go false e true f c g d h m = only 8 (eqb-true _ 8 f) refl
-      go false e false f true g d h m = only 7 (eqb-true _ 7 g) refl
-      go false e false f false g true h m = only 15 (eqb-true _ 15 h) refl
-      go false e false f false g false h m = let z : _≡_ {A = ℕ} 0 1 = cc in absurd (omega arith)
-
--- "low nibble 0000 and 1000 non-latched, 0111 and 1111 latched": at any time it is one of the two
-pub latched-or-not : (es : List Event) → isLatched es ≡ not (isNonLatched es)
-latched-or-not es = one-latch (inForce es 0x21) (latch-known es)
+      go : (u t : Bool) → t ≡ true → both u t ≡ false → u ≡ false
+      go true t e f = sym e ∙ f
+      go false t e f = refl
 
 -- ---- 0x16
 low-0 : (byte : ℕ) → byte / 2 ^ 0 % 2 ≡ byte % 8 / 2 ^ 0 % 2
@@ -147,3 +151,4 @@ in-force-kept es (write a byte) h c m =
 in-force-kept es (read a n) h c m = refl
 in-force-kept es (sample x y z t) h c m = refl
 in-force-kept es cycle h c m = refl
+in-force-kept es (clock us) h c m = refl

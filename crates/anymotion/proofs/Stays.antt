@@ -14,12 +14,12 @@ use Rattle.laws.specs.Bits.{bit}
 use Rattle.laws.proofs.Finite.{left}
 use Rattle.laws.proofs.Ints.{sub-size}
 use Rattle.laws.specs.Lists.{isIn}
-use Rattle.events.specs.Event.{Event, powerUp, write, read, sample, cycle}
+use Rattle.events.specs.Event.{Event, powerUp, write, read, sample, cycle, clock}
 use Rattle.anymotion.specs.InForce.{isTaken, isNonLatched, startsAnew, restarts, forgets, fits}
-use Rattle.anymotion.specs.Points.{pointAt, points}
-use Rattle.anymotion.specs.Status.{isCalm, lastAre, isSetBy, isSet}
-use Rattle.anymotion.specs.Marks.{sets, markedAxes, marksByte}
-use Rattle.anymotion.proofs.Detector.{lessOne, asked-is, asked-kept, latch-kept, points-kept}
+use Rattle.anymotion.specs.Points.{pointAt}
+use Rattle.anymotion.specs.Status.{isCalm, lastAre, isSetBy, points, isSet, sets, expires}
+use Rattle.anymotion.specs.Marks.{markedAxes, marksByte}
+use Rattle.anymotion.proofs.Detector.{lessOne, asked-is, asked-kept, latch-kept, points-kept, none-set, restart-empties, expiry-clears, still-lasts}
 use Rattle.anymotion.proofs.Promise.{marks-apart}
 
 -- "the difference of two signed samples in a row lies between -4095 and 4095"
@@ -44,12 +44,16 @@ forgets-restarts es (write a byte) h = go (startsAnew (write a byte)) (isTaken e
 forgets-restarts es (read a n) h = cc
 forgets-restarts es (sample x y z t) h = cc
 forgets-restarts es cycle h = cc
+forgets-restarts es (clock us) h = cc
+
+neither : (t : Bool) → both (not t) false ≡ false
+neither true = refl
+neither false = refl
 
 module _ (es : List Event) (e : Event) where
   -- "An accepted write to 0x0F, 0x16, 0x21, 0x27 or 0x28 clears status"
   pub restart-clears : restarts es e ≡ true → isSet (e ∷ es) ≡ false
-  unfolding points isSetBy
-  restart-clears r = rw r
+  restart-clears r = none-set (e ∷ es) (restart-empties es e r)
 
   -- "The marks clear with the status"
   pub marks-clear : isSet es ≡ false → marksByte es % 8 ≡ 0
@@ -72,11 +76,12 @@ module _ (es : List Event) (e : Event) where
     -- bit 3 outlasts the writes that clear status, marks and runs
     pub bit-3-over-restart : restarts es e ≡ true → bit 3 (marksByte (e ∷ es)) ≡ bit 3 (marksByte es)
     unfolding sets
-    bit-3-over-restart r = bit-3-stays (rw (restart-clears r) (none (isSet es)))
-      where
-        none : (t : Bool) → both (not t) false ≡ false
-        none true = refl
-        none false = refl
+    bit-3-over-restart r = bit-3-stays (rw (restart-clears r) (neither (isSet es)))
+
+    -- and Q-4's expiry: "The status clears, with marks and runs", and bit 3 is none of these
+    pub bit-3-over-expiry : expires es e ≡ true → bit 3 (marksByte (e ∷ es)) ≡ bit 3 (marksByte es)
+    unfolding sets
+    bit-3-over-expiry x = bit-3-stays (rw (expiry-clears es e x) (neither (isSet es)))
 
     -- and the write that forgets the previous sample too, which is one of them
     pub bit-3-over-forgetting : forgets es e ≡ true → bit 3 (marksByte (e ∷ es)) ≡ bit 3 (marksByte es)
@@ -95,5 +100,5 @@ bit-3-over-calm es x y z t h = bit-3-stays es (sample x y z t) refl calm
 
     calm : sets es (sample x y z t) ≡ false
     calm =
-        rw (asked-kept es (sample x y z t) refl, latch-kept es (sample x y z t) refl, points-kept es (sample x y z t) refl, h, asked-is es)
+        rw (asked-kept es (sample x y z t) refl, latch-kept es (sample x y z t) refl, points-kept es (sample x y z t) refl (still-lasts es (sample x y z t) refl), h, asked-is es)
         (go (both (isNonLatched es) (lastAre isCalm (lessOne es) (points es))) (isSetBy (suc (lessOne es)) (isNonLatched es) (points es)))

@@ -1,9 +1,10 @@
 -- 01, "Register table" and "Interrupts and pins": what of a history any-motion goes by. Of a history the latest event stands first; an
 -- event e after a history es is the history e ∷ es.
-use Prim.Native.Nat.{ℕ, _+_, _%_}
+use Prim.Native.Nat.{ℕ, _+_, _-_, _*_, _/_, _%_}
 use mathlib.Core.Bool.{Bool, false}
 use mathlib.Core.List.{List, [], _∷_}
-use lib.Dec.{eqb}
+use lib.Dec.{eqb, leb}
+use lib.ListN.{getD}
 use lib.IntN.{ℤ, pos, negℤ}
 use lib.Signed.{leZ}
 use Rattle.laws.specs.Choice.{pick, both, either}
@@ -11,7 +12,7 @@ use Rattle.laws.specs.Lists.{isIn}
 use Rattle.registers.specs.Answers.{accepted}
 use Rattle.registers.specs.Refused.{writeAnswer}
 use Rattle.events.specs.Event.{Event}
-use Rattle.events.specs.Views.{isPowerUp, atWrite, atSample}
+use Rattle.events.specs.Views.{isPowerUp, atWrite, atSample, atClock}
 use Rattle.events.specs.Bank.{bank, stored}
 
 -- ---- the registers: the byte that is in force at an address, and whether a write of a byte to an address is accepted. All that is said of
@@ -38,6 +39,35 @@ isNonLatched es = meansNonLatched (inForce es 0x21)
 
 abbrev pub isLatched : List Event → Bool
 isLatched es = meansLatched (inForce es 0x21)
+
+-- Q-4: "Codes 0001 to 0110 hold for 250 ms, 500 ms, 1, 2, 4 and 8 s; 1001 to 1110 for 250 us, 500 us, 1, 12.5, 25 and 50 ms", in
+-- microseconds
+abbrev ms : ℕ → ℕ
+ms n = 1000 * n
+
+abbrev s : ℕ → ℕ
+s n = ms (1000 * n)
+
+-- of the codes from one on, one after the other
+abbrev pub longTimes : List ℕ
+longTimes = ms 250 ∷ ms 500 ∷ s 1 ∷ s 2 ∷ s 4 ∷ s 8 ∷ []
+
+abbrev pub shortTimes : List ℕ
+shortTimes = 250 ∷ 500 ∷ ms 1 ∷ ms 125 / 10 ∷ ms 25 ∷ ms 50 ∷ []
+
+-- the time of a code between two, or other
+abbrev pub timeAmong : ℕ → ℕ → List ℕ → ℕ → ℕ → ℕ
+timeAmong first last times code other = pick (both (leb first code) (leb code last)) (getD times (code - first) 0) other
+
+-- how long a byte of 0x21 holds a status; 0 where no time clears it
+abbrev pub timeOfCode : ℕ → ℕ
+timeOfCode code = timeAmong 0b0001 0b0110 longTimes code (timeAmong 0b1001 0b1110 shortTimes code 0)
+
+abbrev pub meansTime : ℕ → ℕ
+meansTime byte = timeOfCode (byte % 16)
+
+abbrev pub timeAsked : List Event → ℕ
+timeAsked es = meansTime (inForce es 0x21)
 
 -- ---- writes
 -- an accepted write to one of these addresses, after es
@@ -75,3 +105,8 @@ fits v = both (leZ (negℤ (pos 2048)) v) (leZ v (pos 2047))
 -- the sample that an event brings, where it is accepted
 abbrev pub brings : Event → List Signed
 brings e = atSample [] (λ x y z temperature. pick (both (fits x) (both (fits y) (fits z))) (record { x = x; y = y; z = z } ∷ []) []) e
+
+-- ---- clocks
+-- the microseconds that pass at an event: none but at a clock
+abbrev pub passing : Event → ℕ
+passing e = atClock 0 (λ us. us) e

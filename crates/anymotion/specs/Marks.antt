@@ -1,20 +1,16 @@
 -- 01, "Interrupts and pins", any-motion: the marks and the sign, of the points that set the status.
 use Prim.Native.Nat.{ℕ, _+_, _^_}
-use mathlib.Core.Bool.{Bool, true, false, not}
+use mathlib.Core.Bool.{Bool, true, false}
 use mathlib.Core.List.{List, [], _∷_, _++_}
 use mathlib.Core.Path.{_≡_}
 use lib.IntN.{pos}
 use lib.Signed.{ltZ}
-use Rattle.laws.specs.Choice.{pick, both}
+use Rattle.laws.specs.Choice.{pick}
 use Rattle.laws.specs.Bits.{worth}
 use Rattle.events.specs.Event.{Event}
 use Rattle.anymotion.specs.InForce.{startsAnew}
-use Rattle.anymotion.specs.Points.{Axis, OverAxes, points}
-use Rattle.anymotion.specs.Status.{isOver, isCalm, lastAre, isSet, InRow, CameInRow}
-
--- the event e sets the status; "A status already set is not set again"
-unfoldable pub sets : List Event → Event → Bool
-sets es e = both (not (isSet es)) (isSet (e ∷ es))
+use Rattle.anymotion.specs.Points.{Axis, OverAxes}
+use Rattle.anymotion.specs.Status.{isOver, isCalm, lastAre, points, isSet, sets, InRow, CameInRow}
 
 -- "the first over axis (x before y before z)" at the latest point
 abbrev pub firstAxis : List OverAxes → List Axis
@@ -41,7 +37,7 @@ signOf (a ∷ axes) = ltZ (a .difference) (pos 0)
 unfoldable pub marksByte : List Event → ℕ
 marksByte es = pick (isSet es) (markOf (markedAxes es)) 0 + worth 8 (signOf (markedAxes es))
 
--- ---- the point that set a status which is set, among the points since the last restart: "N over points in a row" end with it, the
+-- ---- the point that set a status which is set, among the points since the last restart or expiry: "N over points in a row" end with it, the
 -- status was not set before it, and, non-latched, no N calm points in a row came after it
 pub record SetAt (n : ℕ) (nonLatched : Bool) (ps : List OverAxes) : Type 0 where
   pub later : List OverAxes

@@ -7,7 +7,7 @@ use lib.IntN.{ℤ, _-ℤ_, natAbs}
 use Rattle.laws.specs.Choice.{pick, both, either}
 use Rattle.laws.specs.Bits.{bit}
 use Rattle.events.specs.Event.{Event}
-use Rattle.anymotion.specs.InForce.{inForce, restarts, forgets, Signed, brings}
+use Rattle.anymotion.specs.InForce.{inForce, forgets, Signed, brings}
 
 -- the accepted samples since power-up, soft reset or an accepted write to 0x0F, the latest first: of a next
 -- sample the first of them is the previous one
@@ -55,8 +55,3 @@ pointOfTwo enabled threshold (new ∷ news) (old ∷ olds) = pick (anyEnabled en
 -- the point, if any, that an event gives, by the settings that are in force at it
 unfoldable pub pointAt : List Event → Event → List OverAxes
 pointAt es e = pointOfTwo (inForce es 0x16) (inForce es 0x28) (brings e) (samples es)
-
--- the points since the last restart, the latest first
-unfoldable pub points : List Event → List OverAxes
-points [] = []
-points (e ∷ es) = pick (restarts es e) [] (pointAt es e ++ points es)

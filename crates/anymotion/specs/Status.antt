@@ -1,13 +1,14 @@
--- 01, "Interrupts and pins", any-motion: the status, looking back on the points since the last restart.
-use Prim.Native.Nat.{ℕ, zero, suc}
+-- 01, "Interrupts and pins", any-motion, and Q-4: the status, looking back on the points since the last restart or expiry.
+use Prim.Native.Nat.{ℕ, zero, suc, _+_}
 use mathlib.Core.Bool.{Bool, true, false, not}
 use mathlib.Core.List.{List, [], _∷_, _++_}
 use mathlib.Core.Path.{_≡_}
+use lib.Dec.{leb}
 use lib.ListN.{length}
 use Rattle.laws.specs.Choice.{pick, both}
 use Rattle.events.specs.Event.{Event}
-use Rattle.anymotion.specs.InForce.{pointsAsked, isNonLatched}
-use Rattle.anymotion.specs.Points.{OverAxes, points}
+use Rattle.anymotion.specs.InForce.{pointsAsked, isNonLatched, timeAsked, restarts, passing}
+use Rattle.anymotion.specs.Points.{OverAxes, pointAt}
 
 -- "A point is over when some axis .., else calm"
 abbrev pub isOver : OverAxes → Bool
@@ -37,8 +38,51 @@ isSetBy n nonLatched (p ∷ ps) =
     (pick (both nonLatched (lastAre isCalm n (p ∷ ps))) false
     (isSetBy n nonLatched ps))
 
+-- the same by the settings that are in force after es
+abbrev pub isSetOn : List Event → List OverAxes → Bool
+isSetOn es ps = isSetBy (pointsAsked es) (isNonLatched es) ps
+
+-- ---- what is seen in looking back on a history: the points since the last restart or expiry, the latest first, and "the clock since its
+-- setting", in microseconds, of the status that was set last
+pub record Seen : Type 0 where
+  pub points : List OverAxes
+  pub clock : ℕ
+
+-- an event e after a history es, in which so much was seen
+module _ (es : List Event) (e : Event) (before : Seen) where
+  -- Q-4: "when the clock since its setting reaches that time", of a status that is held for a time
+  abbrev pub timeReached : Bool
+  timeReached = both (isSetOn es (before .points)) (both (leb 1 (timeAsked es)) (leb (timeAsked es) (before .clock + passing e)))
+
+  -- "An accepted write .. clears status, marks and runs"; "The status clears, with marks and runs": the points begin anew
+  abbrev pub pointsNext : List OverAxes
+  pointsNext = pick (restarts es e) [] (pick timeReached [] (pointAt es e ++ before .points))
+
+  -- the clock begins anew where e sets the status, and goes on at every other event: "Calm points don't clear it sooner; over points don't
+  -- extend it"
+  abbrev pub clockNext : ℕ
+  clockNext = pick (both (not (isSetOn es (before .points))) (isSetOn (e ∷ es) pointsNext)) 0 (before .clock + passing e)
+
+unfoldable pub seen : List Event → Seen
+seen [] = record { points = []; clock = 0 }
+seen (e ∷ es) = record { points = pointsNext es e (seen es); clock = clockNext es e (seen es) }
+
+abbrev pub points : List Event → List OverAxes
+points es = seen es .points
+
+abbrev pub clockSince : List Event → ℕ
+clockSince es = seen es .clock
+
 abbrev pub isSet : List Event → Bool
-isSet es = isSetBy (pointsAsked es) (isNonLatched es) (points es)
+isSet es = isSetOn es (points es)
+
+-- the event e sets the status; "A status already set is not set again"
+unfoldable pub sets : List Event → Event → Bool
+sets es e = both (not (isSet es)) (isSet (e ∷ es))
+
+-- at the event e the status expires
+unfoldable pub expires : List Event → Event → Bool
+expires es e = timeReached es e (seen es)
 
 -- ---- the same in one sentence
 -- among the points there are n in a row that are all so, with these later and these earlier than they
@@ -50,7 +94,7 @@ pub record InRow (so : OverAxes → Bool) (n : ℕ) (ps : List OverAxes) : Type 
   pub many : length row ≡ n
   pub all : every so row ≡ true
 
--- since the last restart N over points in a row came and, non-latched, no N calm points in a row after them
+-- since the last restart or expiry N over points in a row came and, non-latched, no N calm points in a row after them
 pub record CameInRow (n : ℕ) (nonLatched : Bool) (ps : List OverAxes) : Type 0 where
   pub came : InRow isOver n ps
   pub since : nonLatched ≡ true → ¬ InRow isCalm n (came .later)

@@ -20,7 +20,7 @@ use Rattle.fifo.specs.declared.Setting.{Setting}
 use Rattle.registers.specs.Answers.{accepted}
 use Rattle.registers.specs.Deeds.{clears}
 use Rattle.device.specs.Sample.{sampleAnswer}
-use Rattle.events.specs.Event.{Event, powerUp, write, read, sample, cycle, Given}
+use Rattle.events.specs.Event.{Event, powerUp, write, read, sample, cycle, clock, Given}
 use Rattle.history.specs.Chip.{Said, sampled, readOut, nothing, onto, since}
 use Rattle.history.specs.Counts.{begun, heldAfter}
 use Rattle.history.specs.History.{accelerometer, readsOut, control, setting, frame, saysHere}
@@ -103,6 +103,7 @@ module _ (es : List Event) where
   same-byte (read a n) on c m = refl
   same-byte (sample x y z t) on c m = refl
   same-byte cycle on c m = refl
+  same-byte (clock us) on c m = refl
 
   goes-on : (e : Event) → goesOn e ≡ true → isCleared (saysHere es e) ≡ false
   unfolding saysHere
@@ -111,6 +112,7 @@ module _ (es : List Event) where
   goes-on (read a n) on = picked (λ (w : Said). isCleared w ≡ false) (readsOut a n) refl refl
   goes-on (sample x y z t) on = picked (λ (w : Said). isCleared w ≡ false) (accepted (sampleAnswer x y z)) refl refl
   goes-on cycle on = refl
+  goes-on (clock us) on = refl
 
   -- how many are held with one event more, by what it says
   held-said : (e : Event) → goesOn e ≡ true → (s : Setting) (es' : List (fifo.Event (List ℕ)))
@@ -129,6 +131,7 @@ module _ (es : List Event) where
       go true = refl
       go false = none-less (heldAfter s es')
   held-said cycle on s es' = none-less (heldAfter s es')
+  held-said (clock us) on s es' = none-less (heldAfter s es')
 
   module _ (e : Event) (on : goesOn e ≡ true) where
     same-setting : setting (e ∷ es) ≡ setting es
@@ -200,6 +203,7 @@ bytes-joined (write a byte ∷ later) es c b = (c .0, bytes-joined later es (c .
 bytes-joined (read a n ∷ later) es c b = bytes-joined later es c b
 bytes-joined (sample x y z t ∷ later) es c b = bytes-joined later es c b
 bytes-joined (cycle ∷ later) es c b = bytes-joined later es c b
+bytes-joined (clock us ∷ later) es c b = bytes-joined later es c b
 
 depth-32 : (es : List Event) → depthBy es ≤ 32
 depth-32 es = go (eqb (byteBy es 0x3E / 64) 0b00)

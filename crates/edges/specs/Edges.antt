@@ -1,9 +1,9 @@
 -- 01, "Both sides of each edge": the rows P1 to P10, and those of the requests, as one table.
-use Prim.Native.Nat.{ℕ}
+use Prim.Native.Nat.{ℕ, _+_, _-_}
 use mathlib.Core.List.{List, [], _∷_, _++_}
 use lib.IntN.{ℤ, pos, negsuc}
 use Rattle.laws.specs.Table.{upFrom}
-use Rattle.events.specs.Event.{Event, write, read, sample, Given, answer, bytes}
+use Rattle.events.specs.Event.{Event, write, read, sample, clock, Given, answer, bytes}
 
 -- a step of a row: an event, and what it gives
 pub record Step : Type 0 where
@@ -34,9 +34,9 @@ abbrev _at_give_leave_ : List ℕ → ℕ → List ℕ → ℕ → List Step
 abbrev eachBit : List ℕ
 eachBit = 0x80 ∷ 0x40 ∷ 0x20 ∷ 0x10 ∷ 0x08 ∷ 0x04 ∷ 0x02 ∷ 0x01 ∷ []
 
--- what the nibbles of 0x21 are answered, from 0000 up to 1111
-abbrev latchTimes : List ℕ
-latchTimes = 0 ∷ 14 ∷ 14 ∷ 14 ∷ 14 ∷ 14 ∷ 14 ∷ 0 ∷ 0 ∷ 14 ∷ 14 ∷ 14 ∷ 14 ∷ 14 ∷ 14 ∷ 0 ∷ []
+-- so many answers 0
+abbrev accepted : ℕ → List ℕ
+accepted n = upFrom (λ k. 0) 0 n
 
 -- the watermark on, with a level, in a mode
 abbrev levelIn : ℕ → ℕ → List Step
@@ -45,6 +45,25 @@ levelIn level mode = write 0x17 0x40 ⇒ answer 0 ∷ write 0x30 level ⇒ answe
 -- what 0x0A reads
 abbrev status : ℕ → List Step
 status byte = read 0x0A 1 ⇒ bytes (byte ∷ []) ∷ []
+
+-- any-motion on x alone, above 4, with N one more than points, and a code in 0x21
+abbrev motionWith : ℕ → ℕ → List Step
+motionWith points code = write 0x16 0x01 ⇒ answer 0 ∷ write 0x28 0x01 ⇒ answer 0 ∷ write 0x27 points ⇒ answer 0 ∷ write 0x21 code ⇒ answer 0 ∷ []
+
+-- an accepted sample, and a clock, and what 0x09 reads behind it
+abbrev sampled : ℤ → ℕ → List Step
+sampled v byte = x v ⇒ answer 0 ∷ read 0x09 1 ⇒ bytes (byte ∷ []) ∷ []
+
+abbrev clocked : ℕ → ℕ → List Step
+clocked us byte = clock us ⇒ answer 0 ∷ read 0x09 1 ⇒ bytes (byte ∷ []) ∷ []
+
+-- both sides of a time in microseconds: one less and then at it; at it; one more; and one less and one more in several
+abbrev limit : ℕ → ℕ → List Step
+limit code time =
+    motionWith 0 code ++ sampled (pos 0) 0x00 ++ sampled (pos 5) 0x04 ++ clocked (time - 1) 0x04 ++ clocked 1 0x00
+    ++ sampled (pos 0) 0x04 ++ clocked time 0x00
+    ++ sampled (pos 5) 0x04 ++ clocked (time + 1) 0x00
+    ++ sampled (pos 0) 0x04 ++ clocked 1 0x04 ++ clocked (time - 3) 0x04 ++ clocked 1 0x04 ++ clocked 2 0x00
 
 -- each row starts at a fresh device
 abbrev pub rows : List (List Step)
@@ -74,8 +93,8 @@ rows =
     x (pos 4) ⇒ answer 0 ∷ read 0x09 1 ⇒ bytes (0x00 ∷ []) ∷ x (pos 9) ⇒ answer 0 ∷ read 0x09 1 ⇒ bytes (0x04 ∷ []) ∷ read 0x0B 1 ⇒ bytes (0x01 ∷ []) ∷ []) ∷
     -- P9 "Afresh, x 0, -5: 0B is 09"
     (write 0x16 0x01 ⇒ answer 0 ∷ write 0x28 0x01 ⇒ answer 0 ∷ write 0x27 0x00 ⇒ answer 0 ∷ x (pos 0) ⇒ answer 0 ∷ x (negsuc 4) ⇒ answer 0 ∷ read 0x0B 1 ⇒ bytes (0x09 ∷ []) ∷ []) ∷
-    -- P10 "0x21=01 gives 3, 07 gives 0", with Q-1: "P10 in 01 gives 14 for 3"
-    (write 0x21 0x01 ⇒ answer 14 ∷ write 0x21 0x07 ⇒ answer 0 ∷ []) ∷
+    -- P10 "0x21=01 gives 3, 07 gives 0", with Q-4: "P10's first write gives 0"
+    (write 0x21 0x01 ⇒ answer 0 ∷ write 0x21 0x07 ⇒ answer 0 ∷ []) ∷
     -- Q-1 "11 a detector bit in 0x16 to 0x18"
     eachBit at 0x16 give (11 ∷ 11 ∷ 11 ∷ 11 ∷ 0 ∷ 0 ∷ 0 ∷ 0 ∷ []) leave 0x01 ∷
     eachBit at 0x17 give (0 ∷ 0 ∷ 0 ∷ 0 ∷ 11 ∷ 11 ∷ 11 ∷ 11 ∷ []) leave 0x10 ∷
@@ -92,10 +111,10 @@ rows =
     eachBit at 0x39 give (13 ∷ 13 ∷ 13 ∷ 13 ∷ 13 ∷ 13 ∷ 13 ∷ 13 ∷ []) leave 0x00 ∷
     eachBit at 0x3A give (13 ∷ 13 ∷ 13 ∷ 13 ∷ 13 ∷ 13 ∷ 13 ∷ 13 ∷ []) leave 0x00 ∷
     (0x00 ∷ []) at 0x38 give (0 ∷ []) leave 0x00 ∷ (0x00 ∷ []) at 0x39 give (0 ∷ []) leave 0x00 ∷ (0x00 ∷ []) at 0x3A give (0 ∷ []) leave 0x00 ∷
-    -- Q-1 "14 a latch time in 0x21": every nibble, and with the command of bit 7
-    upFrom (λ nibble. nibble) 0x00 16 at 0x21 give latchTimes leave 0x0F ∷
-    upFrom (λ nibble. nibble) 0x80 16 at 0x21 give latchTimes leave 0x0F ∷
-    eachBit at 0x21 give (0 ∷ 0 ∷ 0 ∷ 0 ∷ 0 ∷ 14 ∷ 14 ∷ 14 ∷ []) leave 0x08 ∷
+    -- Q-4 "14 is gone": every nibble, and with the command of bit 7
+    upFrom (λ nibble. nibble) 0x00 16 at 0x21 give accepted 16 leave 0x0F ∷
+    upFrom (λ nibble. nibble) 0x80 16 at 0x21 give accepted 16 leave 0x0F ∷
+    eachBit at 0x21 give accepted 8 leave 0x01 ∷
     -- Q-2 "The watermark case in 01 becomes 0, 1, 1": level 2 with one, two, three frames
     (levelIn 2 0x40 ++ samples 1 ++ status 0x00 ++ samples 1 ++ status 0x40 ++ samples 1 ++ status 0x40) ∷
     -- Q-2 "at or above a level from 1 to 32": level 32 with 31, 32 and one sample more, in FIFO and in STREAM mode
@@ -111,4 +130,27 @@ rows =
     -- Q-2: a readout that leaves the level, and one of a single byte that brings the count below it
     (levelIn 2 0x40 ++ samples 3 ++ (read 0x3F 6 ⇒ bytes (0x11 ∷ 0x00 ∷ 0x01 ∷ 0x00 ∷ 0x01 ∷ 0x00 ∷ []) ∷ status 0x40)
     ++ (read 0x3F 1 ⇒ bytes (0x21 ∷ []) ∷ status 0x00)) ∷
+    -- Q-4 "Codes 0001 to 0110 hold for 250 ms, 500 ms, 1, 2, 4 and 8 s"
+    limit 0b0001 250000 ∷ limit 0b0010 500000 ∷ limit 0b0011 1000000 ∷ limit 0b0100 2000000 ∷ limit 0b0101 4000000 ∷ limit 0b0110 8000000 ∷
+    -- Q-4 "1001 to 1110 for 250 us, 500 us, 1, 12.5, 25 and 50 ms"
+    limit 0b1001 250 ∷ limit 0b1010 500 ∷ limit 0b1011 1000 ∷ limit 0b1100 12500 ∷ limit 0b1101 25000 ∷ limit 0b1110 50000 ∷
+    -- the other four codes know no time: latched and non-latched, with N calm points for the latter
+    (motionWith 0 0b0111 ++ sampled (pos 0) 0x00 ++ sampled (pos 5) 0x04 ++ clocked 4294967295 0x04 ++ sampled (pos 5) 0x04) ∷
+    (motionWith 0 0b1111 ++ sampled (pos 0) 0x00 ++ sampled (pos 5) 0x04 ++ clocked 4294967295 0x04 ++ sampled (pos 5) 0x04) ∷
+    (motionWith 0 0b0000 ++ sampled (pos 0) 0x00 ++ sampled (pos 5) 0x04 ++ clocked 4294967295 0x04 ++ sampled (pos 5) 0x00) ∷
+    (motionWith 0 0b1000 ++ sampled (pos 0) 0x00 ++ sampled (pos 5) 0x04 ++ clocked 4294967295 0x04 ++ sampled (pos 5) 0x00) ∷
+    -- Q-4 "Calm points don't clear it sooner"
+    (motionWith 0 0b1001 ++ sampled (pos 0) 0x00 ++ sampled (pos 5) 0x04 ++ sampled (pos 5) 0x04 ++ sampled (pos 5) 0x04 ++ clocked 249 0x04 ++ sampled (pos 5) 0x04 ++ clocked 1 0x00) ∷
+    -- Q-4 "over points don't extend it"
+    (motionWith 0 0b1001 ++ sampled (pos 0) 0x00 ++ sampled (pos 5) 0x04 ++ clocked 249 0x04 ++ sampled (pos 0) 0x04 ++ clocked 1 0x00) ∷
+    -- Q-4 "with marks and runs": with N = 2 the third over point of a row that set it does not count behind the expiry
+    (motionWith 1 0b1001 ++ sampled (pos 0) 0x00 ++ sampled (pos 5) 0x00 ++ sampled (pos 0) 0x04 ++ sampled (pos 5) 0x04 ++ clocked 250 0x00
+    ++ sampled (pos 0) 0x00 ++ sampled (pos 5) 0x04) ∷
+    -- .. and bit 3 of 0x0B stays
+    (motionWith 0 0b1001 ++ sampled (pos 5) 0x00 ++ sampled (pos 0) 0x04 ++ (read 0x0B 1 ⇒ bytes (0x09 ∷ []) ∷ clocked 250 0x00) ++ (read 0x0B 1 ⇒ bytes (0x08 ∷ []) ∷ [])) ∷
+    -- a write that restarts clears at once, and the time of the next setting is a whole one
+    (motionWith 0 0b1001 ++ sampled (pos 0) 0x00 ++ sampled (pos 5) 0x04 ++ clocked 100 0x04 ++ (write 0x28 0x01 ⇒ answer 0 ∷ clocked 0 0x00)
+    ++ sampled (pos 0) 0x04 ++ clocked 249 0x04 ++ clocked 0 0x04 ++ clocked 1 0x00) ∷
+    -- clock that passed before the setting does not count
+    (motionWith 0 0b1001 ++ sampled (pos 0) 0x00 ++ clocked 249 0x00 ++ sampled (pos 5) 0x04 ++ clocked 249 0x04 ++ clocked 1 0x00) ∷
     []

@@ -37,7 +37,7 @@ use Rattle.device.specs.Read.{bufferAfter, singleBytes, afterSingles, byteFrom}
 use Rattle.device.specs.Sample.{sampleAnswer}
 use Rattle.device.specs.Show.{shownByte}
 use Rattle.device.specs.declared.Device.{Device}
-use Rattle.events.specs.Event.{Event, powerUp, write, read, sample, cycle}
+use Rattle.events.specs.Event.{Event, powerUp, write, read, sample, cycle, clock}
 use Rattle.events.specs.Run.{after}
 use Rattle.history.specs.Chip.{Said, cleared, sampled, readOut, nothing, since}
 use Rattle.history.specs.Demand.{fates}
@@ -79,6 +79,7 @@ steady es (write a byte) h = go (clears a byte) refl h
 steady es (read a n) h = refl
 steady es (sample x y z t) h = refl
 steady es cycle h = refl
+steady es (clock us) h = refl
 
 -- what says something was accepted
 abbrev isNothing : Said → Bool
@@ -101,6 +102,7 @@ one-size es (sample x y z t) f q =
     let e : f ≡ frame (axesOf (control es)) x y z = cc in
     rw e (frame-long (axesOf (control es)) x y z .1)
 one-size es cycle f q = cc
+one-size es (clock us) f q = cc
 
 pub lawful : Lawful accelerometer
 lawful = record {
@@ -126,6 +128,7 @@ readout-only es (read a m) n q =
     rw k (at-frames a m (p .0))
 readout-only es (sample x y z t) n q = let p = said (accepted (sampleAnswer x y z)) (sampled (frame (axesOf (control es)) x y z)) (readOut n) refl q .1 in cc
 readout-only es cycle n q = cc
+readout-only es (clock us) n q = cc
 
 follows : Follows accelerometer twin
 unfolding twin queueAt zeros

@@ -32,10 +32,11 @@ use Rattle.device.specs.Device as device
 use Rattle.device.specs.Device.{depth, flatOf}
 use Rattle.device.specs.Read.{readOf, afterReadout, afterSingles}
 use Rattle.device.specs.Sample.{sampleAnswer, sampleOf, afterAccepted, cycleOf, frameOf}
+use Rattle.device.specs.Clock.{clockOf}
 use Rattle.device.specs.Write.{writeOf, written}
 use Rattle.device.specs.declared.Device.{Device}
 use Rattle.device.proofs.Burst.{after-is}
-use Rattle.events.specs.Event.{Event, powerUp, write, read, sample, cycle}
+use Rattle.events.specs.Event.{Event, powerUp, write, read, sample, cycle, clock}
 use Rattle.events.specs.Run.{after}
 use Rattle.history.specs.Chip.{since}
 use Rattle.history.specs.History.{readsOut, controlBy, control, frame, saysHere, accelerometer}
@@ -143,6 +144,10 @@ module _ (es : List Event) (h : Told es) where
   unfolding control since saysHere after cycleOf
   told-cycle = record { regs = h .regs; same = h .same; fits = h .fits; mode = h .mode }
 
+  told-clock : (us : ℕ) → Told (clock us ∷ es)
+  unfolding control since saysHere after clockOf
+  told-clock us = record { regs = h .regs; same = h .same; fits = h .fits; mode = h .mode }
+
 pub told : (es : List Event) → Told es
 unfolding control since saysHere after queueAt
 told [] = first
@@ -151,3 +156,4 @@ told (write a byte ∷ es) = told-write es (told es) a byte
 told (read a n ∷ es) = told-read es (told es) a n
 told (sample x y z t ∷ es) = told-sample es (told es) x y z t
 told (cycle ∷ es) = told-cycle es (told es)
+told (clock us ∷ es) = told-clock es (told es) us

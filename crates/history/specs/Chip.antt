@@ -1,6 +1,6 @@
 -- A chip with a FIFO, as far as demand 3 goes: what its events are, what each says to the FIFO and how the FIFO is set up. In a history
 -- the latest event stands first.
-use Prim.Native.Nat.{ℕ, _+_}
+use Prim.Native.Nat.{ℕ}
 use mathlib.Core.List.{List, [], _∷_}
 use Rattle.fifo.specs.Ledger as fifo
 use Rattle.fifo.specs.declared.Setting.{Setting}

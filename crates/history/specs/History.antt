@@ -30,7 +30,7 @@ use Rattle.registers.specs.Refused.{readAnswer}
 use Rattle.device.specs.Device.{depth}
 use Rattle.device.specs.Read.{bufferAfter}
 use Rattle.device.specs.Sample.{sampleAnswer}
-use Rattle.events.specs.Event.{Event, powerUp, write, read, sample, cycle}
+use Rattle.events.specs.Event.{Event, powerUp, write, read, sample, cycle, clock}
 use Rattle.events.specs.Run.{after}
 use Rattle.history.specs.Chip.{Said, cleared, sampled, readOut, nothing, Chip, Twin, since}
 use Rattle.history.specs.Counts.{arrivals, heldAfter}
@@ -53,6 +53,7 @@ control (write a byte ∷ es) = pick (clears a byte) (controlBy a byte) (control
 control (read a n ∷ es) = control es
 control (sample x y z t ∷ es) = control es
 control (cycle ∷ es) = control es
+control (clock us ∷ es) = control es
 
 -- how deep the FIFO is, what it drops and how long its frames are
 abbrev pub setting : List Event → Setting
@@ -76,6 +77,7 @@ saysHere es (write a byte) = pick (clears a byte) cleared nothing
 saysHere es (read a n) = pick (readsOut a n) (readOut n) nothing
 saysHere es (sample x y z t) = pick (accepted (sampleAnswer x y z)) (sampled (frame (axesOf (control es)) x y z)) nothing
 saysHere es cycle = nothing
+saysHere es (clock us) = nothing
 
 abbrev pub accelerometer : Chip
 accelerometer = record { Event = Event; says = saysHere; setting = setting }

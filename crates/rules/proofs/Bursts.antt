@@ -19,7 +19,7 @@ use Rattle.registers.specs.declared.Answer.the-variants.{Done, BadLength, PastE
 use Rattle.registers.proofs.Answers.{zero-accepted}
 use Rattle.device.specs.Read.{singleByte, afterSingle, afterSingles, singleBytes, readOf}
 use Rattle.device.specs.declared.Device.{Device}
-use Rattle.events.specs.Event.{Event, powerUp, write, read, sample, cycle, bytesAt, gives, bytes}
+use Rattle.events.specs.Event.{Event, powerUp, write, read, sample, cycle, clock, bytesAt, gives, bytes}
 use Rattle.events.specs.Run.{next, after, scriptOnto, onward, told}
 use Rattle.events.specs.Parts.{readsBelow}
 use Rattle.events.proofs.Runs.{onward-after}
@@ -160,3 +160,4 @@ opened-same (write a byte ∷ es) = same-next (opened es) es (opened-same es) (w
 opened-same (read a n ∷ es) = same-read (opened es) es (opened-same es) a n
 opened-same (sample x y z t ∷ es) = same-next (opened es) es (opened-same es) (sample x y z t)
 opened-same (cycle ∷ es) = same-next (opened es) es (opened-same es) cycle
+opened-same (clock us ∷ es) = same-next (opened es) es (opened-same es) (clock us)

@@ -6,13 +6,12 @@ use mathlib.Core.List.{List}
 use mathlib.Core.Path.{_≡_, refl, _∙_}
 use native.Mathlib.Omega.{arith}
 use lib.Dec.{eqb, ltb}
-use lib.Bits.{bitAnd, and-zero-r, or-zero-r, and-mask, and-shr}
+use lib.Bits.{bitAnd, or-zero-r, and-mask, and-shr}
 use borrow.Author.Tests.{eqb-true, not-false}
 use Rattle.laws.specs.Choice.{pick}
 use Rattle.laws.proofs.Finite.{alike}
-use Rattle.codes.specs.Addresses.{rangeAt, latchAt, controlAt, framesAt}
+use Rattle.codes.specs.Addresses.{rangeAt, controlAt, framesAt}
 use Rattle.codes.specs.Range.{rangeOf, isReservedRange}
-use Rattle.codes.specs.Latch.{latchOf, isModelled}
 use Rattle.codes.specs.Mode.{modeOf, isReservedMode}
 use Rattle.codes.specs.declared.Mode.the-variants.{Bypass, Fifo, Stream, Reserved}
 use Rattle.table.specs.Rows.{rowAt, rowOf, lineOf, listed, refusedBits, reservedAddresses, resetBytes, merged}
@@ -26,10 +25,6 @@ use Rattle.device.specs.Device.{firstBytes, powerUp, reg}
 pub first-clear : (a : ℕ) → a < 64 → bitAnd (reg powerUp a) (rowAt a .2) ≡ 0
 unfolding powerUp firstBytes resetBytes rowAt rowOf lineOf listed refusedBits reservedAddresses
 first-clear = alike (λ i. bitAnd (reg powerUp i) (rowAt i .2)) (λ i. 0) 64 refl
-
-row-21 : rowAt latchAt .2 ≡ 0
-unfolding rowAt rowOf lineOf listed refusedBits reservedAddresses
-row-21 = refl
 
 small-mode : (q : ℕ) → isReservedMode (pick (eqb q 0) Bypass (pick (eqb q 1) Fifo (pick (eqb q 2) Stream Reserved))) ≡ false → q < 3
 small-mode q = go (eqb q 0) refl (eqb q 1) refl (eqb q 2) refl
@@ -55,25 +50,15 @@ module _ (regs : List ℕ) where
 
     pub accepted-clear : bitAnd byte (rowAt a .2) ≡ 0
     unfolding notModelled
-    accepted-clear = go (eqb a latchAt) refl
-      where
-        go : (t : Bool) → eqb a latchAt ≡ t → bitAnd byte (rowAt a .2) ≡ 0
-        go true e = rw (eqb-true a latchAt e, row-21) (and-zero-r byte)
-        go false e = let n = none-due .1 in eqb-true _ 0 (not-false _ (rw e at n))
+    accepted-clear = eqb-true _ 0 (not-false _ (none-due .1))
 
-  -- ---- the codes of 0F, 21 and 3E
+  -- ---- the codes of 0F and 3E
   module _ (byte : ℕ) where
     pub range-stored : accepted (writeAnswer regs rangeAt byte) ≡ true → isReservedRange (rangeOf (merged (rowAt rangeAt) byte)) ≡ false
     unfolding rowAt rowOf lineOf listed refusedBits reservedAddresses rangeOf reservedCode
     range-stored h =
         let e : byte % 16 % 16 ≡ byte % 16 = omega arith in
         rw (or-zero-r (bitAnd byte 0x0F), and-mask byte 4, e) (none-due rangeAt byte h .0)
-
-    pub latch-stored : accepted (writeAnswer regs latchAt byte) ≡ true → isModelled (latchOf (merged (rowAt latchAt) byte)) ≡ true
-    unfolding rowAt rowOf lineOf listed refusedBits reservedAddresses latchOf notModelled
-    latch-stored h =
-        let e : byte % 16 % 16 ≡ byte % 16 = omega arith in
-        rw (or-zero-r (bitAnd byte 0x0F), and-mask byte 4, e) (not-false _ (none-due latchAt byte h .1))
 
     pub mode-stored : accepted (writeAnswer regs controlAt byte) ≡ true → isReservedMode (modeOf (merged (rowAt controlAt) byte)) ≡ false
     unfolding rowAt rowOf lineOf listed refusedBits reservedAddresses modeOf reservedCode

@@ -26,7 +26,7 @@ use Rattle.registers.proofs.Verdicts.{resets-is}
 use Rattle.device.specs.Device as device
 use Rattle.device.specs.Read.{channelsRead}
 use Rattle.device.specs.declared.Device.{Device}
-use Rattle.events.specs.Event.{Event, powerUp, write, read, sample, cycle}
+use Rattle.events.specs.Event.{Event, powerUp, write, read, sample, cycle, clock}
 use Rattle.events.specs.Run.{after, scriptOnto}
 use Rattle.events.specs.Bank.{bank}
 use Rattle.events.specs.Parts.{channelsNext}
@@ -96,6 +96,10 @@ module _ (axis : Axis) (part : Channels → Channel) (w : Part axis part) (h : L
     shows-cycle : Shows axis (cycle ∷ h) (channel (cycle ∷ h))
     shows-cycle = after-event cycle (passes axis cycle h (channel h) s (record { is-start = refl; is-sample = refl; is-lsb = refl; is-msb = refl; is-release = refl }))
 
+    shows-clock : (us : ℕ) → Shows axis (clock us ∷ h) (channel (clock us ∷ h))
+    shows-clock us =
+        after-event (clock us) (passes axis (clock us) h (channel h) s (record { is-start = refl; is-sample = refl; is-lsb = refl; is-msb = refl; is-release = refl }))
+
     -- a read that is no burst below 0x3F
     shows-other : (a n : ℕ) → isBurst a n ≡ false → Shows axis (read a n ∷ h) (channel (read a n ∷ h))
     shows-other a n b =
@@ -143,6 +147,7 @@ bytes-opened (write a byte ∷ es) b = (b .0, bytes-opened es (b .1))
 bytes-opened (read a n ∷ es) b = picked ByteWrites (isBurst a n) (bytes-behind a n (opened es) (bytes-opened es b)) (bytes-opened es b)
 bytes-opened (sample x y z t ∷ es) b = bytes-opened es b
 bytes-opened (cycle ∷ es) b = bytes-opened es b
+bytes-opened (clock us ∷ es) b = bytes-opened es b
 
 module _ (axis : Axis) (part : Channels → Channel) (w : Part axis part) where
   abbrev Right : List Event → Type 0
@@ -171,6 +176,7 @@ module _ (axis : Axis) (part : Channels → Channel) (w : Part axis part) where
   shows (read a n ∷ es) b = shows-read a n (opened es) (bytes-opened es b) (shows es b)
   shows (sample x y z t ∷ es) b = shows-sample axis part w (opened es) (shows es b) x y z t
   shows (cycle ∷ es) b = shows-cycle axis part w (opened es) (shows es b)
+  shows (clock us ∷ es) b = shows-clock axis part w (opened es) (shows es b) us
 
   module _ (es : List Event) (b : ByteWrites es) where
     here : Shows axis (opened es) (part (after es .channels))

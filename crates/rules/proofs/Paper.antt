@@ -15,7 +15,6 @@ use Rattle.laws.specs.Table.{upFrom}
 use Rattle.laws.proofs.Table.{entry}
 use Rattle.laws.proofs.Finite.{alike}
 use Rattle.codes.specs.Range.{rangeOf}
-use Rattle.codes.specs.Latch.{latchOf}
 use Rattle.codes.specs.Mode.{modeOf}
 use Rattle.codes.specs.Addresses.{framesAt}
 use Rattle.table.specs.Rows.{rowAt, rowOf, lineOf, listed, refusedBits, reservedAddresses, resetBytes, merged, writable}
@@ -98,7 +97,7 @@ module _ (regs : List ℕ) where
   refused2-is = everywhere (reservedCode regs) isRefused2 refl
 
   lacking-is : (a b : ℕ) → a < 64 → b < 256 → notModelled regs (rowAt a) a b ≡ isLacking a b
-  unfolding notModelled rowAt rowOf lineOf listed refusedBits reservedAddresses latchOf isLacking bit
+  unfolding notModelled rowAt rowOf lineOf listed refusedBits reservedAddresses isLacking bit
   lacking-is = everywhere (λ a b. notModelled regs (rowAt a) a b) isLacking refl
 
   pub accepts-is : (a b : ℕ) → b < 256 → accepted (writeAnswer regs a b) ≡ accepts a b

@@ -7,7 +7,7 @@ use Rattle.laws.specs.Choice.{pick, either}
 use Rattle.laws.proofs.Finite.{of-pick}
 use Rattle.device.specs.Device as device
 use Rattle.device.specs.declared.Device.{Device}
-use Rattle.events.specs.Event.{Event, powerUp, write, read, sample, cycle}
+use Rattle.events.specs.Event.{Event, powerUp, write, read, sample, cycle, clock}
 use Rattle.events.specs.Run.{after}
 use Rattle.events.specs.Parts.{temperatureNext, cameNext}
 use Rattle.events.proofs.Parts.{by-parts}
@@ -28,6 +28,7 @@ module _ (e : Event) (es : List Event) where
           let s = sample x y z t in
           rw (sample-is x y z t) (sym (of-pick (λ (v : Values). v .temperature) (isSample s) (valuesOf s) (lastSample es)))
       go cycle = refl
+      go (clock us) = refl
 
   came-next : cameNext e (cameBy es) ≡ cameBy (e ∷ es)
   unfolding cameBy
@@ -47,6 +48,7 @@ module _ (e : Event) (es : List Event) where
       go (read a n) = refl
       go (sample x y z t) = rw (sample-is x y z t) (come (isSample (sample x y z t)) (cameBy es))
       go cycle = refl
+      go (clock us) = refl
 
 pub temperature-is : (es : List Event) → after es .temperature ≡ lastSample es .temperature
 unfolding after device.powerUp

@@ -14,14 +14,14 @@ use Rattle.codes.specs.Addresses.{controlAt}
 use Rattle.codes.specs.Mode.{modeOf, isReservedMode}
 use Rattle.codes.specs.Axes.{axesOf}
 use Rattle.codes.specs.Range.{rangeOf}
-use Rattle.codes.specs.Latch.{latchOf}
 use Rattle.table.specs.Rows.{rowAt, rowOf, lineOf, listed, refusedBits, reservedAddresses, resetBytes, merged, writable}
 use Rattle.channels.specs.Codes.{codes}
 use Rattle.alarm.specs.Alarm.{Marked}
 use Rattle.slopes.specs.Previous.{slopesTo}
 use Rattle.motion.proofs.Laws.{marked-quiet, marked-restart, marked-sample}
+use Rattle.motion.proofs.Clock.{marked-clock}
 use Rattle.motion.specs.declared.Motion.{Motion}
-use Rattle.detectors.specs.Detectors.{motionSettings, detectorsSampled, detectorsWritten}
+use Rattle.detectors.specs.Detectors.{motionSettings, detectorsSampled, detectorsClocked, detectorsWritten}
 use Rattle.detectors.specs.declared.Detectors.{Detectors}
 use Rattle.fifo.specs.Flat.{Flat}
 use Rattle.fifo.specs.Setting.{depthIn}
@@ -36,7 +36,7 @@ use Rattle.registers.proofs.Verdicts.{control-accepted}
 use Rattle.device.specs.Device.{firstBytes, depth, flatOf}
 use Rattle.device.specs.Device as device
 use Rattle.device.specs.Sample.{sampleAnswer, frameOf}
-use Rattle.events.specs.Event.{Event, powerUp, write, read, sample, cycle}
+use Rattle.events.specs.Event.{Event, powerUp, write, read, sample, cycle, clock}
 use Rattle.events.specs.Run.{after}
 use Rattle.events.specs.Bank.{bankNext}
 use Rattle.events.specs.Parts.{flatNext, detectorsNext, readsFrames}
@@ -48,7 +48,7 @@ use Rattle.rules.proofs.Writes.{byteWritten, byte-written, byte-next}
 -- ---- the registers
 -- the reset byte is one that a write leaves
 first-written : (a : ℕ) → a < 64 → writable a ≡ true → Written a (getD firstBytes a 0)
-unfolding firstBytes resetBytes rowAt rowOf lineOf listed refusedBits reservedAddresses answerAt reservedCode notModelled rangeOf latchOf modeOf
+unfolding firstBytes resetBytes rowAt rowOf lineOf listed refusedBits reservedAddresses answerAt reservedCode notModelled rangeOf modeOf
 first-written a h w =
     let is = alike (λ i. getD firstBytes i 0) (λ i. pick (writable i) (merged (rowAt i) (getD firstBytes i 0)) (getD firstBytes i 0)) 64 refl a h in
     record {
@@ -121,10 +121,11 @@ few-next regs long f p (sample x y z t) =
     let axes = axesOf (getD regs controlAt 0) in
     picked (λ (g : Flat). Few regs g) (accepted (sampleAnswer x y z)) (pushed-few deep (modeOf (getD regs controlAt 0)) axes (frameOf axes (codes x y z)) f p) p
 few-next regs long f p cycle = p
+few-next regs long f p (clock us) = p
 
 -- ---- the detector
 marked-next : (regs : List ℕ) (s : Detectors) → Marked (s .motion .alarm) → (e : Event) → Marked (detectorsNext regs e s .motion .alarm)
-unfolding detectorsWritten detectorsSampled
+unfolding detectorsWritten detectorsSampled detectorsClocked
 marked-next regs s h powerUp = marked-quiet
 marked-next regs s h (write a byte) = go (judgement regs a byte .deeds)
   where
@@ -136,6 +137,7 @@ marked-next regs s h (read a n) = h
 marked-next regs s h (sample x y z t) =
     picked (λ (k : Detectors). Marked (k .motion .alarm)) (accepted (sampleAnswer x y z)) (marked-sample (motionSettings regs) (slopesTo x y z (s .previous)) (s .motion) h) h
 marked-next regs s h cycle = h
+marked-next regs s h (clock us) = marked-clock us (s .motion) h
 
 -- ---- all of it
 proper-first : Proper device.powerUp

@@ -12,9 +12,8 @@ use Rattle.laws.specs.Choice.{pick, both, either}
 use Rattle.laws.specs.Lists.{isIn}
 use Rattle.laws.specs.Bits.{bit}
 use Rattle.laws.proofs.Finite.{alike, left, right, all, each}
-use Rattle.codes.specs.Addresses.{rangeAt, latchAt, controlAt, resetAt, enablesAt, levelAt}
+use Rattle.codes.specs.Addresses.{rangeAt, controlAt, resetAt, enablesAt, levelAt}
 use Rattle.codes.specs.Range.{rangeOf, isReservedRange}
-use Rattle.codes.specs.Latch.{latchOf, isModelled}
 use Rattle.codes.specs.Mode.{modeOf, isReservedMode}
 use Rattle.table.specs.Rows.{listed, reservedAddresses, lineOf, refusedBits, rowOf, rowAt, resetBytes, merged, writable}
 use Rattle.channels.specs.Channels.{byteAt}
@@ -40,7 +39,7 @@ use Rattle.rules.specs.Data.{dataAddresses}
 use Rattle.rules.specs.Rules.{isTabled}
 use Rattle.rules.specs.Proper.{isStored, spared}
 use Rattle.rules.proofs.Bits.{bit-merged, bit-clear}
-use Rattle.rules.proofs.Codes.{accepted-clear, first-clear, range-stored, mode-stored, latch-stored}
+use Rattle.rules.proofs.Codes.{accepted-clear, first-clear, range-stored, mode-stored}
 use Rattle.rules.proofs.Writes.{byteWritten, byte-written, reset-byte}
 use Rattle.rules.proofs.Proper.{proper}
 use Rattle.rules.proofs.Bursts.{single}
@@ -89,10 +88,10 @@ reads-constant v l c es a m = go (ltb a 0x3F) refl (isTabled a) refl (writable a
     go true eh false et w ew e = cc
     go false eh t et w ew e = cc
 
--- three registers that can be written
-settable : (a : ℕ) → isIn (rangeAt ∷ latchAt ∷ controlAt ∷ []) a ≡ true → writable a ≡ true
+-- two registers that can be written
+settable : (a : ℕ) → isIn (rangeAt ∷ controlAt ∷ []) a ≡ true → writable a ≡ true
 unfolding rowAt rowOf lineOf listed refusedBits reservedAddresses
-settable = each writable (rangeAt ∷ latchAt ∷ controlAt ∷ []) refl
+settable = each writable (rangeAt ∷ controlAt ∷ []) refl
 
 module _ (es : List Event) where
   -- "00 (0xFA)"
@@ -154,10 +153,6 @@ module _ (es : List Event) where
   -- "11 is refused 2"
   pub mode-known : isReservedMode (modeOf (stored es controlAt)) ≡ false
   mode-known = let v = proper es .written controlAt (omega arith) (settable controlAt refl) in rw (← bank-is es, v .is) (mode-stored (v .regs) (v .byte) (v .ok))
-
-  -- "others are refused 3", 14 by Q-1
-  pub latch-known : isModelled (latchOf (stored es latchAt)) ≡ true
-  latch-known = let v = proper es .written latchAt (omega arith) (settable latchAt refl) in rw (← bank-is es, v .is) (latch-stored (v .regs) (v .byte) (v .ok))
 
 -- ---- one write more
 -- an address that can be written is of the table, and not 0x14

@@ -16,7 +16,7 @@ use Rattle.registers.specs.Refused.{writeAnswer}
 use Rattle.registers.specs.Deeds.{softResetByte, isReset}
 use Rattle.registers.proofs.Verdicts.{reset-accepted}
 use Rattle.device.specs.Device.{firstBytes, powerUp}
-use Rattle.events.specs.Event.{Event, write, read, sample, cycle}
+use Rattle.events.specs.Event.{Event, write, read, sample, cycle, clock}
 use Rattle.events.specs.Event as event
 use Rattle.events.specs.Bank.{bank, stored}
 use Rattle.events.proofs.Runs.{bank-is, bank-length}
@@ -82,3 +82,4 @@ stored-is (write c byte ∷ es) b a h = written es a h c byte (b .0) (stored-is 
 stored-is (read c n ∷ es) b a h = stored-is es b a h
 stored-is (sample x y z t ∷ es) b a h = stored-is es b a h
 stored-is (cycle ∷ es) b a h = stored-is es b a h
+stored-is (clock us ∷ es) b a h = stored-is es b a h

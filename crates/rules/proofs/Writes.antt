@@ -20,7 +20,7 @@ use Rattle.registers.specs.Deeds.{isReset, judgement}
 use Rattle.registers.proofs.Verdicts.{accepted-below, stores-is, resets-is}
 use Rattle.device.specs.Device.{firstBytes}
 use Rattle.device.specs.Write.{regsReset, storedAt}
-use Rattle.events.specs.Event.{Event, powerUp, write, read, sample, cycle}
+use Rattle.events.specs.Event.{Event, powerUp, write, read, sample, cycle, clock}
 use Rattle.events.specs.Bank.{bankNext}
 use Rattle.events.proofs.Runs.{first-length}
 use Rattle.rules.specs.Proper.{isStored, spared}
@@ -83,3 +83,4 @@ byte-next P regs long a (write c byte) p q r =
 byte-next P regs long a (read c n) p q r = p
 byte-next P regs long a (sample x y z t) p q r = p
 byte-next P regs long a cycle p q r = p
+byte-next P regs long a (clock us) p q r = p

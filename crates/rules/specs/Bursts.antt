@@ -5,7 +5,7 @@ use mathlib.Core.List.{List, [], _∷_, _++_}
 use lib.Dec.{ltb, leb}
 use Rattle.laws.specs.Choice.{pick, both}
 use Rattle.laws.specs.Table.{upFrom}
-use Rattle.events.specs.Event.{Event, powerUp, write, read, sample, cycle, Given}
+use Rattle.events.specs.Event.{Event, powerUp, write, read, sample, cycle, clock, Given}
 use Rattle.events.specs.Run.{scriptOnto}
 
 -- an accepted burst below 0x3F, of n bytes from address a on: at least one, and none past 0x3E
@@ -29,3 +29,4 @@ opened (write a byte ∷ es) = write a byte ∷ opened es
 opened (read a n ∷ es) = pick (isBurst a n) (scriptOnto (singles a n) (opened es)) (read a n ∷ opened es)
 opened (sample x y z temperature ∷ es) = sample x y z temperature ∷ opened es
 opened (cycle ∷ es) = cycle ∷ opened es
+opened (clock us ∷ es) = clock us ∷ opened es

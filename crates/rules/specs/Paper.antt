@@ -86,13 +86,11 @@ isRefused2 a b =
     either (both (eqb a 0x0F) (not (isIn (0b0011 ∷ 0b0101 ∷ 0b1000 ∷ 0b1100 ∷ []) (b % 16))))
     (both (eqb a 0x3E) (eqb (b / 64) 0b11))
 
--- in 3's place, by Q-1: "Split it by register"
+-- in 3's place, by Q-1: "Split it by register"; and Q-4: "14 is gone", so of 0x21 nothing is refused
 unfoldable pub isLacking : ℕ → ℕ → Bool
 isLacking a b =
-    -- "21: low nibble 0000 and 1000 non-latched, 0111 and 1111 latched; others are refused 3", a latch time
-    either (both (eqb a 0x21) (not (isIn (0b0000 ∷ 0b1000 ∷ 0b0111 ∷ 0b1111 ∷ []) (b % 16))))
     -- "Refused 3: a 1 in 0x11 bits 7:5, 0x16 bits 7:4, 0x17 bits 3:0, 0x18 bits 2:0, 0x32 bits 1:0, 0x33 bits 3, 1, 0, 0x36 bits 7:5 or 2:0"
-    (either (both (eqb a 0x11) (oneIn (7 ∷ 6 ∷ 5 ∷ []) b))
+    either (both (eqb a 0x11) (oneIn (7 ∷ 6 ∷ 5 ∷ []) b))
     (either (both (eqb a 0x16) (oneIn (7 ∷ 6 ∷ 5 ∷ 4 ∷ []) b))
     (either (both (eqb a 0x17) (oneIn (3 ∷ 2 ∷ 1 ∷ 0 ∷ []) b))
     (either (both (eqb a 0x18) (oneIn (2 ∷ 1 ∷ 0 ∷ []) b))
@@ -100,7 +98,7 @@ isLacking a b =
     (either (both (eqb a 0x33) (oneIn (3 ∷ 1 ∷ 0 ∷ []) b))
     (either (both (eqb a 0x36) (oneIn (7 ∷ 6 ∷ 5 ∷ 2 ∷ 1 ∷ 0 ∷ []) b))
     -- "anything but 0 to 0x38 to 0x3A"
-    (both (isIn (0x38 ∷ 0x39 ∷ 0x3A ∷ []) a) (not (eqb b 0))))))))))
+    (both (isIn (0x38 ∷ 0x39 ∷ 0x3A ∷ []) a) (not (eqb b 0)))))))))
 
 -- 1: "address above 0x3F"; every other write is accepted
 unfoldable pub accepts : ℕ → ℕ → Bool

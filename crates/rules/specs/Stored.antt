@@ -5,7 +5,7 @@ use mathlib.Core.List.{List, [], _∷_}
 use lib.Dec.{eqb}
 use Rattle.laws.specs.Choice.{pick, both}
 use Rattle.laws.specs.Lists.{isIn}
-use Rattle.events.specs.Event.{Event, powerUp, write, read, sample, cycle}
+use Rattle.events.specs.Event.{Event, powerUp, write, read, sample, cycle, clock}
 use Rattle.events.specs.Views.{isPowerUp, atWrite}
 use Rattle.rules.specs.Paper.{resetOf, masked, accepts}
 
@@ -17,6 +17,7 @@ ByteWrites (write a byte ∷ es) = (byte < 256) × ByteWrites es
 ByteWrites (read a n ∷ es) = ByteWrites es
 ByteWrites (sample x y z temperature ∷ es) = ByteWrites es
 ByteWrites (cycle ∷ es) = ByteWrites es
+ByteWrites (clock us ∷ es) = ByteWrites es
 
 -- "14: 0xB6 is a soft reset"
 abbrev pub isSoftReset : ℕ → ℕ → Bool

@@ -1,0 +1,98 @@
+-- Q-4: a status that is held for a time stands until the clock since its setting reaches it, and no longer. Assumes nothing.
+use Prim.Native.Nat.{ℕ, _+_, _<_, _≤_}
+use mathlib.Core.Bool.{Bool, true, false, not}
+use mathlib.Core.List.{List, [], _∷_, _++_}
+use mathlib.Core.Path.{_≡_, refl, _∙_}
+use native.Mathlib.Omega.{arith}
+use borrow.Author.Tests.{le-leb}
+use lib.Dec.{leb}
+use Rattle.laws.specs.Choice.{pick}
+use Rattle.laws.proofs.Finite.{right}
+use Rattle.events.specs.Event.{Event, clock}
+use Rattle.anymotion.specs.InForce.{inForce, timeAsked, restarts, brings, passing}
+use Rattle.anymotion.specs.Points.{OverAxes, samples, pointAt}
+use Rattle.anymotion.specs.Status.{isOver, lastAre, isSetBy, points, clockSince, isSet, sets, expires}
+use Rattle.anymotion.specs.Held.{clockOver, NoneRestarts, SetFor, HeldFor}
+use Rattle.anymotion.proofs.Settings.{timed-holds}
+use Rattle.anymotion.proofs.Points.{OneOrNone, one-or-none}
+use Rattle.anymotion.proofs.Detector.{since-next, asked-kept, latch-kept, time-kept, points-kept, expiry-empties, expiry-clears, expiry-when}
+use Rattle.anymotion.proofs.Promise.{reads-status}
+use Rattle.anymotion.proofs.Stays.{marks-clear, bit-3-over-expiry}
+
+-- where calm points do not clear, one more point leaves a status that is set
+set-stays : (n : ℕ) (q ps : List OverAxes) → OneOrNone q → isSetBy n false ps ≡ true → isSetBy n false (q ++ ps) ≡ true
+unfolding isSetBy
+set-stays n [] ps o h = h
+set-stays n (p ∷ []) ps o h = rw h (go (lastAre isOver n (p ∷ ps)))
+  where
+    go : (t : Bool) → pick t true (pick false false true) ≡ true
+    go true = refl
+    go false = refl
+set-stays n (p ∷ (r ∷ q)) ps o h = absurd o
+
+-- an event that does not restart and does not reach the time
+module _ (es : List Event) (e : Event) (same : restarts es e ≡ false) (set : isSet es ≡ true) (timed : 1 ≤ timeAsked es) (short : clockSince es + passing e < timeAsked es) where
+  lasts : expires es e ≡ false
+  lasts = go (expires es e) refl
+    where
+      go : (x : Bool) → expires es e ≡ x → x ≡ false
+      go true h = let w = expiry-when es e h in absurd (omega (arith, w .2))
+      go false h = refl
+
+  set-next : isSet (e ∷ es) ≡ true
+  unfolding pointAt
+  set-next =
+      let u = timed-holds es timed in
+      rw (asked-kept es e same, latch-kept es e same, points-kept es e same lasts, u)
+      (set-stays _ (pointAt es e) (points es) (one-or-none (inForce es 0x16) (inForce es 0x28) (brings e) (samples es)) (rw u at set))
+
+  clock-next : clockSince (e ∷ es) ≡ clockSince es + passing e
+  clock-next = since-next es e ∙ rw set
+
+-- ---- the events since the one that set it
+module _ (es : List Event) (e : Event) (set : sets es e ≡ true) (timed : 1 ≤ timeAsked (e ∷ es)) where
+  abbrev behind : List Event → List Event
+  behind later = later ++ (e ∷ es)
+
+  record Waits (later : List Event) : Type 0 where
+    status : isSet (behind later) ≡ true
+    since : clockSince (behind later) ≡ clockOver later
+    time : timeAsked (behind later) ≡ timeAsked (e ∷ es)
+
+  first : Waits []
+  unfolding sets
+  first = record { status = right (not (isSet es)) (isSet (e ∷ es)) set; since = since-next es e ∙ rw set; time = refl }
+
+  more : (f : Event) (later : List Event) → restarts (behind later) f ≡ false → clockOver (f ∷ later) < timeAsked (e ∷ es) → Waits later → Waits (f ∷ later)
+  more f later same short w =
+      let t : 1 ≤ timeAsked (behind later) = rw (w .time) timed in
+      let s : clockSince (behind later) + passing f < timeAsked (behind later) = rw (w .since, w .time) (omega (arith, short)) in
+      record {
+        status = set-next (behind later) f same (w .status) t s;
+        since = clock-next (behind later) f same (w .status) t s ∙ rw (w .since) (omega arith);
+        time = time-kept (behind later) f same ∙ w .time;
+      }
+
+  waits : (later : List Event) → NoneRestarts (e ∷ es) later → clockOver later < timeAsked (e ∷ es) → Waits later
+  waits [] n h = first
+  waits (f ∷ later) n h = more f later (n .0) h (waits later (n .1) (omega (arith, h)))
+
+  module _ (later : List Event) (us : ℕ) (w : Waits later) (short : clockOver later < timeAsked (e ∷ es)) (long : timeAsked (e ∷ es) ≤ us + clockOver later) where
+    reaches : expires (behind later) (clock us) ≡ true
+    unfolding expires
+    reaches =
+        let t : leb 1 (timeAsked (behind later)) ≡ true = rw (w .time) (le-leb 1 (timeAsked (e ∷ es)) timed) in
+        let r : leb (timeAsked (behind later)) (clockSince (behind later) + us) ≡ true = rw (w .time, w .since) (le-leb (timeAsked (e ∷ es)) (clockOver later + us) (omega (arith, long))) in
+        rw (w .status, t, r)
+
+pub held : (es : List Event) (e : Event) (later : List Event) → SetFor es e later → HeldFor es e later
+unfolding restarts
+held es e later s = record {
+  stands = λ short. reads-status (later ++ (e ∷ es)) ∙ rw (waits es e (s .set) (s .timed) later (s .none) short .status);
+  clears = λ us short long.
+      let w = waits es e (s .set) (s .timed) later (s .none) short in
+      let x = reaches es e (s .set) (s .timed) later us w short long in
+      let h = later ++ (e ∷ es) in
+      let n = expiry-clears h (clock us) x in
+      (reads-status (clock us ∷ h) ∙ rw n, marks-clear (clock us ∷ h) (clock us) n, bit-3-over-expiry h (clock us) refl x, expiry-empties h (clock us) x);
+}
