@@ -8,7 +8,7 @@ use Rattle.account.proofs.why_of_read as why-of-read
 use Rattle.account.proofs.after_write as after-write
 use Rattle.account.proofs.after_read as after-read
 use Rattle.account.proofs.after_sample as after-sample
-use Rattle.account.proofs.after_cycle as after-cycle
+use Rattle.account.proofs.after_idle as after-idle
 
 pub why-of-write-settled : Settled why-of-write.ended (λ M. why-of-write.clauses) (λ M. why-of-write.spec)
 why-of-write-settled = settles (λ κs a r r′ s s′ p q. (meet p q, refl))
@@ -25,5 +25,5 @@ after-read-settled = settles (λ κs a r r′ s s′ p q. (meet p q, refl))
 pub after-sample-settled : Settled after-sample.ended (λ M. after-sample.clauses) (λ M. after-sample.spec)
 after-sample-settled = settles (λ κs a r r′ s s′ p q. (meet p q, refl))
 
-pub after-cycle-settled : Settled after-cycle.ended (λ M. after-cycle.clauses) (λ M. after-cycle.spec)
-after-cycle-settled = settles (λ κs a r r′ s s′ p q. (meet p q, refl))
+pub after-idle-settled : Settled after-idle.ended (λ M. after-idle.clauses) (λ M. after-idle.spec)
+after-idle-settled = settles (λ κs a r r′ s s′ p q. (meet p q, refl))

@@ -7,7 +7,7 @@ use Rattle.codes.specs.declared.Range.{Range}
 use Rattle.registers.specs.Answers.{accepted}
 use Rattle.registers.specs.Deeds.{isReset}
 use Rattle.registers.specs.declared.Answer.{Answer}
-use Rattle.events.specs.Event.{Event, powerUp, write, read, sample, cycle}
+use Rattle.events.specs.Event.{Event, powerUp, write, read, sample, cycle, clock}
 use Rattle.counts.specs.Counts.{sum, less, left, arrived, accountMoved}
 use Rattle.counts.specs.declared.Account.{Account}
 use Rattle.counts.specs.declared.Counts.{Counts}
@@ -22,13 +22,15 @@ abbrev pub refusedBy : Answer → ℕ
 refusedBy a = pick (accepted a) 0 1
 
 -- one event more, by its answer and the frames held before and behind it. Frames that a read lets go were taken, and those that a
--- write lets go were cleared; an accepted sample makes one frame more, or one was lost
+-- write lets go were cleared; an accepted sample makes one frame more, or one was lost; at a cycle start, or Q-4's clock, none comes or
+-- goes
 unfoldable pub countsAfter : Counts → Event → Answer → ℕ → ℕ → Counts
 countsAfter c powerUp a before behind = left c 0 (less before behind) (refusedBy a)
 countsAfter c (write address byte) a before behind = left c 0 (less before behind) (refusedBy a)
 countsAfter c (read address n) a before behind = left c (less before behind) 0 (refusedBy a)
 countsAfter c (sample x y z temperature) a before behind = pick (accepted a) (arrived c (less (sum before 1) behind)) (left c 0 0 1)
 countsAfter c cycle a before behind = left c 0 0 (refusedBy a)
+countsAfter c (clock us) a before behind = left c 0 0 (refusedBy a)
 
 -- ---- why a stretch ends with an event
 unfoldable pub whyOfWrite : ℕ → ℕ → Answer → Why
@@ -45,6 +47,7 @@ whyOf (write address byte) a = whyOfWrite address byte a
 whyOf (read address n) a = whyOfRead address a
 whyOf (sample x y z temperature) a = why.Nothing
 whyOf cycle a = why.Nothing
+whyOf (clock us) a = why.Nothing
 
 -- ---- the range's doubt
 -- behind a write that is event number, and of byte
@@ -61,6 +64,7 @@ doubtBehind d (write address byte) a number = doubtAfter d (whyOfWrite address b
 doubtBehind d (read address n) a number = d
 doubtBehind d (sample x y z temperature) a number = d
 doubtBehind d cycle a number = d
+doubtBehind d (clock us) a number = d
 
 -- ---- the account
 unfoldable pub accountAfter : Account → Event → Answer → Range → ℕ → Account

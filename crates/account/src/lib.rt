@@ -127,8 +127,8 @@ pub fn after_sample(
     }
 }
 
-// Behind a cycle start.
-pub fn after_cycle(account: Account, answer: Answer, range: Range, held: u64) -> Account
+// Behind an event at which no frame comes or goes: a cycle start, or a clock, of which accountAfter says the same (proofs/Idle).
+pub fn after_idle(account: Account, answer: Answer, range: Range, held: u64) -> Account
     ensures { λ r. ⌜ r ≡ accountAfter account cycle answer range held ⌝ }
 {
     let counts = account.counts;

@@ -25,6 +25,8 @@ use Rattle.device.proofs.Device.sample as sample
 use Rattle.device.proofs.Device.sample.Reads as sample-reads
 use Rattle.device.proofs.Device.start_cycle as cycle
 use Rattle.device.proofs.Device.start_cycle.Reads as cycle-reads
+use Rattle.device.proofs.Device.clock as clock
+use Rattle.device.proofs.Device.clock.Reads as clock-reads
 use Rattle.logreader.proofs.read_version as read-version
 use Rattle.logreader.proofs.read_version.Reads as read-version-reads
 use Rattle.logreader.proofs.read_entry as read-entry
@@ -35,7 +37,7 @@ use Rattle.logwriter.proofs.write_entry as write-entry
 use Rattle.logwriter.proofs.write_entry.Reads as write-entry-reads
 use Rattle.outcomes.specs.LogNumbers.{EmptyLog, NotVersionOne, WrongAt, CutAt, NoRoomForVersion, NoRoomForRecord}
 use Rattle.outcomes.proofs.LogRefusals.{log-7, log-9, record-8, record-9, version-10, record-10}
-use Rattle.outcomes.proofs.Refusals.{write-exactly, read-exactly, sample-exactly, cycle-done, write-unchanged, read-unchanged, sample-unchanged, log-unchanged}
+use Rattle.outcomes.proofs.Refusals.{write-exactly, read-exactly, sample-exactly, cycle-done, clock-done, write-unchanged, read-unchanged, sample-unchanged, log-unchanged}
 
 pub write-tabled : (κs : Lfts 0) (a : Args write.signature κs) (r : Res write.signature κs) (e : AtExit write.ended κs) → write-reads.Learnt κs a r e
     → ((n : ℕ) → eqb n (number (r .answer)) ≡ due number (writeRows (a .0 .regs) (rowAt (a .1 .0)) (a .1 .0) (a .1 .1 .0)) n) × (number (r .answer) ≢ 0 → r .device ≡ a .0)
@@ -53,6 +55,10 @@ sample-tabled κs a r e p = rw p (sample-exactly (a .0) (a .1 .0) (a .1 .1 .0) (
 pub cycle-tabled : (κs : Lfts 0) (a : Args cycle.signature κs) (r : Res cycle.signature κs) (e : AtExit cycle.ended κs) → cycle-reads.Learnt κs a r e
     → number (r .answer) ≡ 0
 cycle-tabled κs a r e p = rw p (cycle-done (a .0))
+
+pub clock-tabled : (κs : Lfts 0) (a : Args clock.signature κs) (r : Res clock.signature κs) (e : AtExit clock.ended κs) → clock-reads.Learnt κs a r e
+    → number (r .answer) ≡ 0
+clock-tabled κs a r e p = rw p (clock-done (a .0) (a .1 .0))
 
 -- ---- the log's
 pub read-version-worded : (κs : Lfts 1) (a : Args read-version.signature κs) (r : Res read-version.signature κs) (e : AtExit read-version.ended κs) → read-version-reads.Learnt κs a r e

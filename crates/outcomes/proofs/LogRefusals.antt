@@ -1,6 +1,7 @@
--- Demand 1 of the log: 7 to 10 are given exactly when document 01 says of the bytes, and a record is found exactly where its bytes stand.
+-- Demand 1 of the log: 7 to 10 are given exactly when document 01 says of the bytes, with Q-4's kind 5, and a record is found exactly where
+-- its bytes stand.
 -- Assumes nothing.
-use Prim.Native.Nat.{ℕ, zero, suc, _+_, _*_, _-_}
+use Prim.Native.Nat.{ℕ, zero, suc, _+_, _*_, _-_, _/_, _%_, _≤_}
 use mathlib.Core.Bool.{Bool, true, false, not}
 use mathlib.Core.List.{List, [], _∷_, _++_}
 use mathlib.Core.Logic.{_↔_, inl}
@@ -56,9 +57,14 @@ module _ (n : ℕ) where
     some : eqb n 0 ≡ false
     some = ne-eqb n 0 (λ e. right (inl e))
 
-    -- 01's list as a test, and the length that the reader's definitions give a kind
+    -- the list of 01 and Q-4 as a test, and the length that the reader's definitions give a kind
     abbrev isListed : ℕ → Bool
-    isListed kind = either (both (eqb kind 1) (eqb n 3)) (either (both (eqb kind 2) (eqb n 3)) (either (both (eqb kind 3) (eqb n 8)) (both (eqb kind 4) (eqb n 1))))
+    isListed kind =
+        either (both (eqb kind 1) (eqb n 3))
+        (either (both (eqb kind 2) (eqb n 3))
+        (either (both (eqb kind 3) (eqb n 8))
+        (either (both (eqb kind 4) (eqb n 1))
+        (both (eqb kind 5) (eqb n 5)))))
 
     either-no : (t : Bool) → t ≡ either t false
     either-no true = refl
@@ -70,10 +76,12 @@ module _ (n : ℕ) where
     listed-is (suc zero) = either-no (eqb n 3)
     listed-is (suc (suc zero)) = either-no (eqb n 3)
     listed-is (suc (suc (suc zero))) = either-no (eqb n 8)
-    listed-is (suc (suc (suc (suc zero)))) = refl
-    listed-is (suc (suc (suc (suc (suc k))))) =
-        let kind = suc (suc (suc (suc (suc k)))) in
-        rw (ne-eqb kind 1 (λ e. omega arith), ne-eqb kind 2 (λ e. omega arith), ne-eqb kind 3 (λ e. omega arith), ne-eqb kind 4 (λ e. omega arith)) some
+    listed-is (suc (suc (suc (suc zero)))) = either-no (eqb n 1)
+    listed-is (suc (suc (suc (suc (suc zero))))) = refl
+    listed-is (suc (suc (suc (suc (suc (suc k)))))) =
+        let kind = suc (suc (suc (suc (suc (suc k))))) in
+        let other : (j : ℕ) → j ≤ 5 → eqb kind j ≡ false = λ j h. ne-eqb kind j (λ e. omega arith) in
+        rw (other 1 (omega arith), other 2 (omega arith), other 3 (omega arith), other 4 (omega arith), other 5 (omega arith)) some
 
     row-means : (kind k m : ℕ) → Means (both (eqb kind k) (eqb n m)) ((kind ≡ k) × (n ≡ m))
     row-means kind k m = and (equal kind k) (λ _. equal n m)
@@ -86,7 +94,8 @@ module _ (n : ℕ) where
     kind-means : (behind : List ℕ) → Means (eqb n (lengthOfKind (getD (take n behind) 0 0))) (RightKind n behind)
     kind-means behind =
         let kind = getD behind 0 0 in
-        rw (first-is n behind some, listed-is kind) (or (row-means kind 1 3) (or (row-means kind 2 3) (or (row-means kind 3 8) (row-means kind 4 1))))
+        rw (first-is n behind some, listed-is kind)
+        (or (row-means kind 1 3) (or (row-means kind 2 3) (or (row-means kind 3 8) (or (row-means kind 4 1) (row-means kind 5 5)))))
 
 -- where a length field stands, there is neither the end nor is the field cut
 not-end : (behind : List ℕ) → eqb (suc (suc (length behind))) 0 ≡ false
@@ -139,6 +148,12 @@ encode-spelled (entry.Write w) = refl
 encode-spelled (entry.Read r) = refl
 encode-spelled (entry.Sample s) = refl
 encode-spelled (entry.CycleStart c) = refl
+encode-spelled (entry.Clock k) =
+    let n = k .microseconds in
+    let first : n / 65536 / 256 ≡ n / 16777216 = omega arith in
+    let third : n % 65536 / 256 ≡ n / 256 % 256 = omega arith in
+    let fourth : n % 65536 % 256 ≡ n % 256 = omega arith in
+    rw (first, third, fourth)
 
 module _ (log : List ℕ) (place : ℕ) where
   -- "An end at a record boundary is the end"

@@ -1,4 +1,4 @@
--- 01's printed case, and logs on either side of what stops a replay: what the replay prints, by computation.
+-- 01's printed case, and logs on either side of what stops a replay and of a latch time: what the replay prints, by computation.
 -- Assumes nothing.
 use mathlib.Core.List.{map}
 use mathlib.Core.Path.{_≡_, refl}
@@ -18,8 +18,9 @@ use Rattle.channels.specs.Channels.{byteAt, afterRead}
 use Rattle.slopes.specs.Previous.{slopesTo}
 use Rattle.slopes.specs.Point.{firstOver, pointOf}
 use Rattle.slopes.specs.Runs.{overRun, calmRun}
-use Rattle.motion.specs.Detector.{afterOver, afterCalm, afterSample, restarted}
-use Rattle.detectors.specs.Detectors.{detectorsSampled, detectorsWritten}
+use Rattle.alarm.specs.Alarm.{lapseOf}
+use Rattle.motion.specs.Detector.{afterOver, afterCalm, afterSample, restarted, clocked}
+use Rattle.detectors.specs.Detectors.{detectorsSampled, detectorsClocked, detectorsWritten}
 use Rattle.interrupts.specs.Statuses.{statusesOf}
 use Rattle.interrupts.specs.Lines.{statusByte}
 use Rattle.device.specs.Device as device
@@ -32,6 +33,7 @@ use Rattle.interrupts.specs.Lines.{isActive}
 use Rattle.interrupts.specs.Pins.{pinLevel}
 use Rattle.device.specs.Show.{pinsOf}
 use Rattle.device.specs.Sample.{cycleOf}
+use Rattle.device.specs.Clock.{clockOf}
 use Rattle.benchlog.specs.Format.{lengthOfKind}
 use Rattle.benchlog.specs.Reader.{entryOf, foundIn, readHead, readVersion}
 use Rattle.text.specs.Text.{lastDigits, decimal, line}
@@ -41,5 +43,5 @@ use Rattle.playback.specs.Replay.{start, printed}
 use Rattle.outcomes.specs.PrintedCases.{printedCases}
 
 pub printed-cases : map (λ c. printed (c .log)) printedCases ≡ map (λ c. c .text) printedCases
-unfolding bit zeros firstOrZeros movedForward rangeOf latchOf modeOf axesOf listed reservedAddresses lineOf refusedBits rowOf rowAt resetBytes reservedCode notModelled lackAt answerAt readAnswer deedsOf judgement flatPushed flatRead bytesRead pushedIn readIn bytesIn countIn noFrames code byteAt afterRead slopesTo firstOver pointOf overRun calmRun afterOver afterCalm afterSample restarted detectorsSampled detectorsWritten statusesOf statusByte device.powerUp firstBytes shownByte byteFrom afterSingles singleBytes readOf written writeOf sampleAnswer afterAccepted sampleOf cycleOf isActive pinLevel pinsOf lengthOfKind entryOf foundIn readHead readVersion lastDigits decimal line start eventOf linesOf printedFrom
+unfolding bit zeros firstOrZeros movedForward rangeOf latchOf modeOf axesOf listed reservedAddresses lineOf refusedBits rowOf rowAt resetBytes reservedCode notModelled lackAt answerAt readAnswer deedsOf judgement flatPushed flatRead bytesRead pushedIn readIn bytesIn countIn noFrames code byteAt afterRead slopesTo firstOver pointOf overRun calmRun afterOver afterCalm afterSample lapseOf clocked restarted detectorsSampled detectorsClocked detectorsWritten statusesOf statusByte device.powerUp firstBytes shownByte byteFrom afterSingles singleBytes readOf written writeOf sampleAnswer afterAccepted sampleOf cycleOf clockOf isActive pinLevel pinsOf lengthOfKind entryOf foundIn readHead readVersion lastDigits decimal line start eventOf linesOf printedFrom
 printed-cases = refl

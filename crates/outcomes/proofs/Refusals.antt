@@ -1,10 +1,10 @@
--- Demand 1: every event gets an answer, refusals are given exactly when document 01 says, and leave device, lent buffer and log as
+-- Demand 1: every event gets an answer, refusals are given exactly when documents 01 and 02 say, and leave device, lent buffer and log as
 -- they were.
 -- Assumes nothing.
 use Prim.Native.Nat.{ℕ, _+_, _<_}
 use mathlib.Core.Bool.{Bool, true, false, not}
 use mathlib.Core.List.{List, [], _∷_}
-use mathlib.Core.Logic.{_↔_, _≢_}
+use mathlib.Core.Logic.{_↔_, _≢_, ⊎-elim}
 use mathlib.Core.Path.{_≡_, refl, sym, ap, _∙_}
 use native.Mathlib.Omega.{arith}
 use borrow.Author.Tests.{ne-eqb}
@@ -15,8 +15,7 @@ use Rattle.laws.specs.Choice.{pick, both, either}
 use Rattle.laws.specs.Lists.{isIn}
 use Rattle.laws.specs.Refusals.{row, due}
 use Rattle.laws.proofs.Refusals.{apart, exact, ways, first-in}
-use Rattle.codes.specs.Addresses.{framesAt}
-use Rattle.codes.specs.Latch.{latchOf}
+use Rattle.codes.specs.Addresses.{framesAt, latchAt}
 use Rattle.codes.specs.Mode.{modeOf}
 use Rattle.codes.specs.Range.{rangeOf}
 use Rattle.channels.specs.Codes.{inRange}
@@ -30,8 +29,9 @@ use Rattle.registers.proofs.Answers.{zero-accepted, lack-any}
 use Rattle.device.specs.Write.{writeOf}
 use Rattle.device.specs.Read.{readOf, bufferAfter}
 use Rattle.device.specs.Sample.{sampleRows, sampleAnswer, sampleOf, cycleOf}
+use Rattle.device.specs.Clock.{clockOf}
 use Rattle.device.specs.declared.Device.{Device}
-use Rattle.events.specs.Event.{Event, powerUp, write, read, sample, cycle, gives}
+use Rattle.events.specs.Event.{Event, powerUp, write, read, sample, cycle, clock, gives}
 use Rattle.events.specs.Run.{next}
 use Rattle.device.proofs.Refused.{write-refused, read-refused, sample-refused}
 use Rattle.benchlog.specs.Answers.{foundNumber, beginsNumber, roomNumber}
@@ -40,13 +40,14 @@ use Rattle.benchlog.specs.Writer.{roomFor, writtenAs, written, placedAs, outAft
 use Rattle.benchlog.specs.declared.Room.{Room}
 use Rattle.benchlog.specs.declared.Room.the-variants as room
 use Rattle.benchlog.proofs.Exactly.{read-answers, version-answers, write-answers}
-use Rattle.outcomes.specs.Numbers.{AboveLast, ReservedWrite, DetectorWrite, PowerModeWrite, TestOrTrimWrite, LatchTimeWrite, LackingWrite, SomeOutside, WrongReadLength, Passing, answersTo, NothingElse}
-use Rattle.outcomes.proofs.Words.{Means, no, when, told, isnt, likewise, last, less, equal, and, or, reserved-is, last-row, some-number, detector-is, power-mode-is, test-or-trim-is, latch-time-is, outside}
+use Rattle.outcomes.specs.Numbers.{AboveLast, ReservedWrite, DetectorWrite, PowerModeWrite, TestOrTrimWrite, LackingWrite, SomeOutside, WrongReadLength, Passing}
+use Rattle.outcomes.specs.Numbers.{isReservedWrite, isDetectorWrite, isPowerModeWrite, isTestOrTrimWrite, answersTo, NothingElse}
+use Rattle.outcomes.proofs.Words.{Means, no, when, told, isnt, likewise, last, less, equal, and, or, reserved-is, last-row, some-number, detector-is, power-mode-is, test-or-trim-is, outside}
 
 -- ---- exactly when the rows say
 -- the rows of a write have different numbers, and none is 0, whichever is the register's
 rows-apart : (p q t : Bool) (a : ℕ) → apart number (row NoAddress p ∷ row ReservedCode q ∷ row (lackAt a) t ∷ []) ≡ true
-rows-apart p q t = lack-any (λ x. apart number (row NoAddress p ∷ row ReservedCode q ∷ row x t ∷ []) ≡ true) refl refl refl refl
+rows-apart p q t = lack-any (λ x. apart number (row NoAddress p ∷ row ReservedCode q ∷ row x t ∷ []) ≡ true) refl refl refl
 
 pub write-exactly : (d : Device) (a byte n : ℕ) → eqb n (number (writeOf d a byte .answer)) ≡ due number (writeRows (d .regs) (rowAt a) a byte) n
 unfolding writeOf judgement answerAt
@@ -64,6 +65,10 @@ pub cycle-done : (d : Device) → number (cycleOf d .answer) ≡ 0
 unfolding cycleOf
 cycle-done d = refl
 
+pub clock-done : (d : Device) (us : ℕ) → number (clockOf d us .answer) ≡ 0
+unfolding clockOf
+clock-done d us = refl
+
 -- both ways
 pub write-when : (d : Device) (a byte n : ℕ) → (number (writeOf d a byte .answer) ≡ n) ↔ (due number (writeRows (d .regs) (rowAt a) a byte) n ≡ true)
 write-when d a byte n = ways (write-exactly d a byte n)
@@ -74,7 +79,7 @@ read-when d a count n = ways (read-exactly d a count n)
 pub sample-when : (d : Device) (x y z : ℤ) (t n : ℕ) → (number (sampleOf d x y z t .answer) ≡ n) ↔ (due number (sampleRows x y z) n ≡ true)
 sample-when d x y z t n = ways (sample-exactly d x y z t n)
 
--- ---- the rows in 01's words, and Q-1's. "A write tests 1, 2, 3", and 11 to 14 "stand in 3's place"
+-- ---- the rows in 01's words, and Q-1's. "A write tests 1, 2, 3", and 11 to 13 "stand in 3's place"
 pub write-1 : (d : Device) (a byte : ℕ) → (number (writeOf d a byte .answer) ≡ 1) ↔ AboveLast a
 write-1 d a byte = when (write-exactly d a byte 1) (less 0x3F a)
 
@@ -101,11 +106,8 @@ module _ (d : Device) (a byte : ℕ) (fits : byte < 256) where
   is-test-or-trim : ¬ AboveLast a → Means (both (numbered 13) lacking) (TestOrTrimWrite a byte)
   is-test-or-trim h = told (test-or-trim-is (d .regs) a byte (within h) fits)
 
-  is-latch-time : ¬ AboveLast a → Means (both (numbered 14) lacking) (LatchTimeWrite a byte)
-  is-latch-time h = told (latch-time-is (d .regs) a byte (within h) fits)
-
   is-lacking : ¬ AboveLast a → Means lacking (LackingWrite a byte)
-  is-lacking h = likewise (some-number a lacking) (or (is-detector h) (or (is-power-mode h) (or (is-test-or-trim h) (is-latch-time h))))
+  is-lacking h = likewise (some-number a lacking) (or (is-detector h) (or (is-power-mode h) (is-test-or-trim h)))
 
   -- in 3's place
   third : (n : ℕ) {P : Type 0} → (¬ AboveLast a → Means (both (numbered n) lacking) P) → ¬ AboveLast a
@@ -113,7 +115,7 @@ module _ (d : Device) (a byte : ℕ) (fits : byte < 256) where
   third n w h = and (isnt (is-reserved h)) (λ _. likewise (last-row (numbered n) lacking) (w h))
 
   zero-free : numbered 0 ≡ false
-  zero-free = lack-any (λ x. eqb 0 (number x) ≡ false) refl refl refl refl a
+  zero-free = lack-any (λ x. eqb 0 (number x) ≡ false) refl refl refl a
 
   pub write-0 : (number (writeOf d a byte .answer) ≡ 0) ↔ (¬ AboveLast a × (¬ ReservedWrite a byte × ¬ LackingWrite a byte))
   write-0 = when (write-exactly d a byte 0) (and (isnt (less 0x3F a)) (λ h. and (isnt (is-reserved h)) (λ _. rw zero-free (last (isnt (is-lacking h))))))
@@ -130,8 +132,10 @@ module _ (d : Device) (a byte : ℕ) (fits : byte < 256) where
   pub write-13 : (number (writeOf d a byte .answer) ≡ 13) ↔ (¬ AboveLast a × (¬ ReservedWrite a byte × TestOrTrimWrite a byte))
   write-13 = when (write-exactly d a byte 13) (and (isnt (less 0x3F a)) (third 13 is-test-or-trim))
 
-  pub write-14 : (number (writeOf d a byte .answer) ≡ 14) ↔ (¬ AboveLast a × (¬ ReservedWrite a byte × LatchTimeWrite a byte))
-  write-14 = when (write-exactly d a byte 14) (and (isnt (less 0x3F a)) (third 14 is-latch-time))
+-- Q-4: "14 is gone, and P10's first write gives 0", as every write of a byte to 0x21 does
+pub latch-0 : (d : Device) (byte : ℕ) → byte < 256 → number (writeOf d latchAt byte .answer) ≡ 0
+unfolding isReservedWrite isDetectorWrite isPowerModeWrite isTestOrTrimWrite
+latch-0 d byte fits = write-0 d latchAt byte fits .1 (λ above. omega arith, (no, ⊎-elim no (⊎-elim no no)))
 
 -- "a read tests 1, 5, 6"
 module _ (d : Device) (a n : ℕ) where
@@ -197,31 +201,42 @@ event-unchanged d (write a byte) h = (write-unchanged d a byte h, refl)
 event-unchanged d (read a n) h = let off = not-accepted (readAnswer a n) h in (rw off, rw off)
 event-unchanged d (sample x y z t) h = (sample-unchanged d x y z t h, refl)
 event-unchanged d cycle h = absurd (h (cycle-done d))
+event-unchanged d (clock us) h = absurd (h (clock-done d us))
 
--- ---- nothing else is answered: 0 to 14 but 3, each where 01 and Q-1 have it
+-- ---- nothing else is answered: 0 to 13 but 3, each where 01, Q-1 and Q-4 have it
 event-answers : (d : Device) (e : Event) → isIn (answersTo e) (gives d e .number) ≡ true
-unfolding writeOf judgement answerAt readOf readAnswer sampleOf sampleAnswer cycleOf
+unfolding writeOf judgement answerAt readOf readAnswer sampleOf sampleAnswer cycleOf clockOf
 event-answers d powerUp = refl
 event-answers d (write a byte) =
-    let lack : isIn (answersTo (write a byte)) (number (lackAt a)) ≡ true = lack-any (λ x. isIn (answersTo (write a byte)) (number x) ≡ true) refl refl refl refl a in
+    let lack : isIn (answersTo (write a byte)) (number (lackAt a)) ≡ true = lack-any (λ x. isIn (answersTo (write a byte)) (number x) ≡ true) refl refl refl a in
     first-in number (answersTo (write a byte)) Done refl (writeRows (d .regs) (rowAt a) a byte) (rw lack)
 event-answers d (read a n) = first-in number (0 ∷ 1 ∷ 5 ∷ 6 ∷ []) Done refl (readRows a n) refl
 event-answers d (sample x y z t) = first-in number (0 ∷ 4 ∷ []) Done refl (sampleRows x y z) refl
 event-answers d cycle = refl
+event-answers d (clock us) = refl
 
 pub nothing-else : NothingElse
 nothing-else = record { event = event-answers; version = version-answers; entry = read-answers; room = write-answers }
 
--- Q-1: "3 is never given again", by no device and to no event
+-- a number that is not among them is given by no device and to no event
+never-given : (n : ℕ) → ((e : Event) → isIn (answersTo e) n ≡ false) → (d : Device) (e : Event) → gives d e .number ≢ n
+never-given n without d e is = no (sym (without e) ∙ ap (isIn (answersTo e)) (sym is) ∙ event-answers d e)
+
+without : (e : Event) → (isIn (answersTo e) 3 ≡ false) × (isIn (answersTo e) 14 ≡ false)
+without powerUp = (refl, refl)
+without (write a byte) = (refl, refl)
+without (read a n) = (refl, refl)
+without (sample x y z temperature) = (refl, refl)
+without cycle = (refl, refl)
+without (clock us) = (refl, refl)
+
+-- Q-1: "3 is never given again"
 pub never-3 : (d : Device) (e : Event) → gives d e .number ≢ 3
-never-3 d e three = no (sym (without e) ∙ ap (isIn (answersTo e)) (sym three) ∙ event-answers d e)
-  where
-    without : (e : Event) → isIn (answersTo e) 3 ≡ false
-    without powerUp = refl
-    without (write a byte) = refl
-    without (read a n) = refl
-    without (sample x y z temperature) = refl
-    without cycle = refl
+never-3 = never-given 3 (λ e. without e .0)
+
+-- Q-4: "14 is gone"
+pub never-14 : (d : Device) (e : Event) → gives d e .number ≢ 14
+never-14 = never-given 14 (λ e. without e .1)
 
 -- each of the others is given somewhere, whatever the device
 pub each-given : (d : Device)
@@ -230,7 +245,7 @@ pub each-given : (d : Device)
     number (readOf d 0x3F 193 .answer) ∷ number (readOf d 0x3E 2 .answer) ∷
     beginsNumber (readVersion (2 ∷ []) .begins) ∷ foundNumber (readAt (0 ∷ 9 ∷ []) 0 .found) ∷ beginsNumber (readVersion [] .begins) ∷
     roomNumber (written [] 0 (1 ∷ []) .room) ∷
-    number (writeOf d 0x18 0x04 .answer) ∷ number (writeOf d 0x11 0x20 .answer) ∷ number (writeOf d 0x38 0x01 .answer) ∷ number (writeOf d 0x21 0x01 .answer) ∷ []
-    ≡ 0 ∷ 1 ∷ 2 ∷ 4 ∷ 5 ∷ 6 ∷ 7 ∷ 8 ∷ 9 ∷ 10 ∷ 11 ∷ 12 ∷ 13 ∷ 14 ∷ []
-unfolding writeOf judgement answerAt reservedCode rangeOf modeOf notModelled lackAt rowAt rowOf lineOf listed refusedBits reservedAddresses latchOf readOf readAnswer sampleOf sampleAnswer readVersion readHead foundIn roomFor
+    number (writeOf d 0x18 0x04 .answer) ∷ number (writeOf d 0x11 0x20 .answer) ∷ number (writeOf d 0x38 0x01 .answer) ∷ []
+    ≡ 0 ∷ 1 ∷ 2 ∷ 4 ∷ 5 ∷ 6 ∷ 7 ∷ 8 ∷ 9 ∷ 10 ∷ 11 ∷ 12 ∷ 13 ∷ []
+unfolding writeOf judgement answerAt reservedCode rangeOf modeOf notModelled lackAt rowAt rowOf lineOf listed refusedBits reservedAddresses readOf readAnswer sampleOf sampleAnswer readVersion readHead foundIn roomFor
 each-given d = refl

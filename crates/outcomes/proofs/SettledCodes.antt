@@ -5,8 +5,8 @@ use Rattle.laws.specs.Outcome.{Settled}
 use Rattle.codes.proofs.range_of as range-of
 use Rattle.codes.proofs.is_reserved_range as is-reserved-range
 use Rattle.codes.proofs.latch_of as latch-of
-use Rattle.codes.proofs.is_modelled as is-modelled
 use Rattle.codes.proofs.is_unlatched as is-unlatched
+use Rattle.codes.proofs.hold_of as hold-of
 use Rattle.codes.proofs.mode_of as mode-of
 use Rattle.codes.proofs.is_reserved_mode as is-reserved-mode
 use Rattle.codes.proofs.axes_of as axes-of
@@ -21,11 +21,11 @@ is-reserved-range-settled = plain (λ κs a s s′. refl)
 latch-of-settled : Settled latch-of.ended (λ M. latch-of.clauses) (λ M. latch-of.spec)
 latch-of-settled = plain (λ κs a s s′. refl)
 
-is-modelled-settled : Settled is-modelled.ended (λ M. is-modelled.clauses) (λ M. is-modelled.spec)
-is-modelled-settled = plain (λ κs a s s′. refl)
-
 is-unlatched-settled : Settled is-unlatched.ended (λ M. is-unlatched.clauses) (λ M. is-unlatched.spec)
 is-unlatched-settled = plain (λ κs a s s′. refl)
+
+hold-of-settled : Settled hold-of.ended (λ M. hold-of.clauses) (λ M. hold-of.spec)
+hold-of-settled = plain (λ κs a s s′. refl)
 
 mode-of-settled : Settled mode-of.ended (λ M. mode-of.clauses) (λ M. mode-of.spec)
 mode-of-settled = plain (λ κs a s s′. refl)

@@ -6,6 +6,7 @@ use Rattle.detectors.proofs.Detectors.quiet as quiet
 use Rattle.detectors.proofs.Detectors.motion_status as motion-status
 use Rattle.detectors.proofs.Detectors.motion_marks as motion-marks
 use Rattle.detectors.proofs.Detectors.sample as sample
+use Rattle.detectors.proofs.Detectors.clock as clock
 use Rattle.detectors.proofs.Detectors.after_write as after-write
 use Rattle.outcomes.proofs.Plain.{plain}
 
@@ -20,6 +21,9 @@ motion-marks-settled = plain (λ κs a s s′. refl)
 
 sample-settled : Settled sample.ended (λ M. sample.clauses) (λ M. sample.spec)
 sample-settled = plain (λ κs a s s′. refl)
+
+clock-settled : Settled clock.ended (λ M. clock.clauses) (λ M. clock.spec)
+clock-settled = plain (λ κs a s s′. refl)
 
 after-write-settled : Settled after-write.ended (λ M. after-write.clauses) (λ M. after-write.spec)
 after-write-settled = plain (λ κs a s s′. refl)

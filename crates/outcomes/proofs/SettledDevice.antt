@@ -16,6 +16,7 @@ use Rattle.device.proofs.Device.read_in as read-in
 use Rattle.device.proofs.Device.sample_in as sample-in
 use Rattle.device.proofs.Device.with_rest_of as with-rest-of
 use Rattle.device.proofs.Device.start_cycle as start-cycle
+use Rattle.device.proofs.Device.clock as clock
 use Rattle.device.proofs.Device.pins as pins
 use Rattle.device.proofs.Device.held as held
 use Rattle.device.proofs.Device.range as range
@@ -58,6 +59,9 @@ with-rest-of-settled = plain (λ κs a s s′. refl)
 
 start-cycle-settled : Settled start-cycle.ended (λ M. start-cycle.clauses) (λ M. start-cycle.spec)
 start-cycle-settled = plain (λ κs a s s′. refl)
+
+clock-settled : Settled clock.ended (λ M. clock.clauses) (λ M. clock.spec)
+clock-settled = plain (λ κs a s s′. refl)
 
 pins-settled : Settled pins.ended (λ M. pins.clauses) (λ M. pins.spec)
 pins-settled = plain (λ κs a s s′. refl)

@@ -8,6 +8,7 @@ use Rattle.motion.proofs.Motion.is_set as is-set
 use Rattle.motion.proofs.Motion.marks as marks
 use Rattle.motion.proofs.Motion.restart as restart
 use Rattle.motion.proofs.Motion.sample as sample
+use Rattle.motion.proofs.Motion.clock as clock
 use Rattle.outcomes.proofs.Plain.{plain}
 
 points-needed-settled : Settled points-needed.ended (λ M. points-needed.clauses) (λ M. points-needed.spec)
@@ -27,3 +28,6 @@ restart-settled = plain (λ κs a s s′. refl)
 
 sample-settled : Settled sample.ended (λ M. sample.clauses) (λ M. sample.spec)
 sample-settled = plain (λ κs a s s′. refl)
+
+clock-settled : Settled clock.ended (λ M. clock.clauses) (λ M. clock.spec)
+clock-settled = plain (λ κs a s s′. refl)

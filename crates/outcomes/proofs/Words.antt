@@ -16,14 +16,13 @@ use Rattle.laws.specs.Table.{upFrom}
 use Rattle.laws.proofs.Refusals.{ways}
 use Rattle.laws.proofs.Finite.{alike}
 use Rattle.channels.specs.Codes.{inRange}
-use Rattle.codes.specs.Latch.{latchOf}
 use Rattle.codes.specs.Mode.{modeOf}
 use Rattle.codes.specs.Range.{rangeOf}
 use Rattle.registers.specs.Answers.{number}
 use Rattle.registers.specs.Refused.{reservedCode, notModelled, lackAt}
 use Rattle.registers.proofs.Answers.{lack-any}
 use Rattle.table.specs.Rows.{rowAt, rowOf, lineOf, listed, refusedBits, reservedAddresses}
-use Rattle.outcomes.specs.Numbers.{isReservedWrite, isDetectorWrite, isPowerModeWrite, isTestOrTrimWrite, isLatchTimeWrite, Outside}
+use Rattle.outcomes.specs.Numbers.{isReservedWrite, isDetectorWrite, isPowerModeWrite, isTestOrTrimWrite, Outside}
 
 pub no : {X : Type 0} → false ≡ true → X
 no e = let z : _≡_ {A = ℕ} 0 1 = cc in absurd (omega arith)
@@ -97,7 +96,7 @@ otherwise {b = false} p q = let v = q (λ x. no (p .1 x)) in (λ e. inr (v .0 e)
 pub or : {b c : Bool} {P Q : Type 0} → Means b P → Means c Q → Means (either b c) (P ⊎ Q)
 or p q = otherwise p (λ _. q)
 
--- ---- 2 and 11 to 14: by computation, at each address and byte, whatever the registers hold
+-- ---- 2 and 11 to 13: by computation, at each address and byte, whatever the registers hold
 everywhere : (f g : ℕ → ℕ → Bool) → upFrom (λ a. upFrom (f a) 0 256) 0 64 ≡ upFrom (λ a. upFrom (g a) 0 256) 0 64
     → (a b : ℕ) → a < 64 → b < 256 → f a b ≡ g a b
 everywhere f g e a b h k = alike (f a) (g a) 256 (alike (λ c. upFrom (f c) 0 256) (λ c. upFrom (g c) 0 256) 64 e a h) b k
@@ -112,13 +111,13 @@ last-row true t = refl
 last-row false true = refl
 last-row false false = refl
 
--- what is lacking has one of the four numbers
-abbrev oneOfFour : ℕ → Bool → Bool
-oneOfFour n t = either (both (eqb 11 n) t) (either (both (eqb 12 n) t) (either (both (eqb 13 n) t) (both (eqb 14 n) t)))
+-- what is lacking has one of the three numbers
+abbrev oneOfThree : ℕ → Bool → Bool
+oneOfThree n t = either (both (eqb 11 n) t) (either (both (eqb 12 n) t) (both (eqb 13 n) t))
 
-pub some-number : (a : ℕ) (t : Bool) → t ≡ oneOfFour (number (lackAt a)) t
-some-number a true = lack-any (λ x. true ≡ oneOfFour (number x) true) refl refl refl refl a
-some-number a false = lack-any (λ x. false ≡ oneOfFour (number x) false) refl refl refl refl a
+pub some-number : (a : ℕ) (t : Bool) → t ≡ oneOfThree (number (lackAt a)) t
+some-number a true = lack-any (λ x. true ≡ oneOfThree (number x) true) refl refl refl a
+some-number a false = lack-any (λ x. false ≡ oneOfThree (number x) false) refl refl refl a
 
 module _ (regs : List ℕ) where
   -- whether a setting of the register is not modelled and n is the number of what is lacking there
@@ -126,20 +125,16 @@ module _ (regs : List ℕ) where
   lackNumbered n a b = both (eqb n (number (lackAt a))) (notModelled regs (rowAt a) a b)
 
   pub detector-is : (a b : ℕ) → a < 64 → b < 256 → lackNumbered 11 a b ≡ isDetectorWrite a b
-  unfolding notModelled lackAt rowAt rowOf lineOf listed refusedBits reservedAddresses latchOf isDetectorWrite bit
+  unfolding notModelled lackAt rowAt rowOf lineOf listed refusedBits reservedAddresses isDetectorWrite bit
   detector-is = everywhere (lackNumbered 11) isDetectorWrite refl
 
   pub power-mode-is : (a b : ℕ) → a < 64 → b < 256 → lackNumbered 12 a b ≡ isPowerModeWrite a b
-  unfolding notModelled lackAt rowAt rowOf lineOf listed refusedBits reservedAddresses latchOf isPowerModeWrite bit
+  unfolding notModelled lackAt rowAt rowOf lineOf listed refusedBits reservedAddresses isPowerModeWrite bit
   power-mode-is = everywhere (lackNumbered 12) isPowerModeWrite refl
 
   pub test-or-trim-is : (a b : ℕ) → a < 64 → b < 256 → lackNumbered 13 a b ≡ isTestOrTrimWrite a b
-  unfolding notModelled lackAt rowAt rowOf lineOf listed refusedBits reservedAddresses latchOf isTestOrTrimWrite bit
+  unfolding notModelled lackAt rowAt rowOf lineOf listed refusedBits reservedAddresses isTestOrTrimWrite bit
   test-or-trim-is = everywhere (lackNumbered 13) isTestOrTrimWrite refl
-
-  pub latch-time-is : (a b : ℕ) → a < 64 → b < 256 → lackNumbered 14 a b ≡ isLatchTimeWrite a b
-  unfolding notModelled lackAt rowAt rowOf lineOf listed refusedBits reservedAddresses latchOf isLatchTimeWrite bit
-  latch-time-is = everywhere (lackNumbered 14) isLatchTimeWrite refl
 
 -- ---- 4
 above : (n : ℕ) (t : Bool) → ltb n 2048 ≡ t → not t ≡ ltb 2047 n

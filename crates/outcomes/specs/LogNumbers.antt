@@ -1,5 +1,6 @@
--- 01, "Numbers given back", 7 to 10, and "Bench log and replay", once more from the text: on the bytes alone, with 01's own numbers, and
--- with nothing of the definitions that reader and writer cite. proofs/LogRefusals holds those against these.
+-- 01, "Numbers given back", 7 to 10, and "Bench log and replay", with Q-4's record of a clock, once more from the text: on the bytes alone,
+-- with the papers' own numbers, and with nothing of the definitions that reader and writer cite. proofs/LogRefusals holds those against
+-- these.
 use Prim.Native.Nat.{ℕ, _+_, _*_, _/_, _%_, _<_}
 use mathlib.Core.List.{List, [], _∷_, _++_}
 use mathlib.Core.Logic.{_⊎_, _≢_}
@@ -9,7 +10,7 @@ use lib.ListN.{length, getD}
 use mir.Syntax.{w16}
 use mir.Val.{ofZ}
 use Rattle.benchlog.specs.declared.Entry.{Entry}
-use Rattle.benchlog.specs.declared.Entry.the-variants.{Write, Read, Sample, CycleStart}
+use Rattle.benchlog.specs.declared.Entry.the-variants.{Write, Read, Sample, CycleStart, Clock}
 
 -- ---- what a log begins with
 -- 9, "log cut, or empty"
@@ -23,9 +24,10 @@ NotVersionOne (version ∷ records) = version ≢ 1
 
 -- ---- what stands at a place of a log: s are its bytes from there on
 -- "1 write (address, byte; length 3), 2 read (address, count; length 3), 3 sample (x, y, z as 16-bit big-endian signed, temperature;
--- length 8), 4 cycle start (length 1)": a kind that is known, and its length
+-- length 8), 4 cycle start (length 1)", and Q-4: "log kind 5 (length 5, big-endian)". A kind that is known, and its length
 abbrev pub KindOfLength : ℕ → ℕ → Type 0
-KindOfLength kind n = ((kind ≡ 1) × (n ≡ 3)) ⊎ (((kind ≡ 2) × (n ≡ 3)) ⊎ (((kind ≡ 3) × (n ≡ 8)) ⊎ ((kind ≡ 4) × (n ≡ 1))))
+KindOfLength kind n =
+    ((kind ≡ 1) × (n ≡ 3)) ⊎ (((kind ≡ 2) × (n ≡ 3)) ⊎ (((kind ≡ 3) × (n ≡ 8)) ⊎ (((kind ≡ 4) × (n ≡ 1)) ⊎ ((kind ≡ 5) × (n ≡ 5)))))
 
 -- "length 0 or above 8"
 abbrev pub WrongRecordLength : ℕ → Type 0
@@ -67,12 +69,17 @@ highByte z = ofZ w16 z / 256
 abbrev pub lowByte : ℤ → ℕ
 lowByte z = ofZ w16 z % 256
 
+-- "a 32-bit count of microseconds", "big-endian"
+abbrev pub fourBytes : ℕ → List ℕ
+fourBytes us = us / 16777216 ∷ us / 65536 % 256 ∷ us / 256 % 256 ∷ us % 256 ∷ []
+
 abbrev pub spelled : Entry → List ℕ
 spelled (Write w) = 0 ∷ 3 ∷ 1 ∷ w .address ∷ w .byte ∷ []
 spelled (Read r) = 0 ∷ 3 ∷ 2 ∷ r .address ∷ r .count ∷ []
 spelled (Sample s) =
     0 ∷ 8 ∷ 3 ∷ highByte (s .x) ∷ lowByte (s .x) ∷ highByte (s .y) ∷ lowByte (s .y) ∷ highByte (s .z) ∷ lowByte (s .z) ∷ s .temperature ∷ []
 spelled (CycleStart c) = 0 ∷ 1 ∷ 4 ∷ []
+spelled (Clock k) = 0 ∷ 5 ∷ 5 ∷ fourBytes (k .microseconds)
 
 -- the bytes s begin with those of a record
 pub record BeginsWith (bytes s : List ℕ) : Type 0 where

@@ -1,4 +1,4 @@
--- 01, "Numbers given back", and Q-1: the tests of the device's numbers in their words, and which numbers each event is answered with. No
+-- 01, "Numbers given back", Q-1 and Q-4: the tests of the device's numbers in their words, and which numbers each event is answered with. No
 -- contract cites these; proofs/Refusals holds them against the definitions that the contracts cite.
 use Prim.Native.Nat.{ℕ, _+_, _/_, _%_, _<_}
 use mathlib.Core.Bool.{Bool, true, false, not}
@@ -12,7 +12,7 @@ use Rattle.laws.specs.Bits.{bit}
 use Rattle.laws.specs.Choice.{both, either}
 use Rattle.laws.specs.Lists.{isIn}
 use Rattle.device.specs.declared.Device.{Device}
-use Rattle.events.specs.Event.{Event, powerUp, write, read, sample, cycle, gives}
+use Rattle.events.specs.Event.{Event, powerUp, write, read, sample, cycle, clock, gives}
 use Rattle.benchlog.specs.Answers.{foundNumber, beginsNumber, roomNumber}
 use Rattle.benchlog.specs.Reader.{readAt, readVersion}
 use Rattle.benchlog.specs.Writer.{written}
@@ -67,16 +67,9 @@ isTestOrTrimWrite a b =
 abbrev pub TestOrTrimWrite : ℕ → ℕ → Type 0
 TestOrTrimWrite a b = isTestOrTrimWrite a b ≡ true
 
--- 14, "a latch time in 0x21": "low nibble 0000 and 1000 non-latched, 0111 and 1111 latched"; the others are the latch times
-unfoldable pub isLatchTimeWrite : ℕ → ℕ → Bool
-isLatchTimeWrite a b = both (eqb a 0x21) (not (isIn (0b0000 ∷ 0b1000 ∷ 0b0111 ∷ 0b1111 ∷ []) (b % 16)))
-
-abbrev pub LatchTimeWrite : ℕ → ℕ → Type 0
-LatchTimeWrite a b = isLatchTimeWrite a b ≡ true
-
--- "which kind of thing the twin lacks": one of the four
+-- "which kind of thing the twin lacks": one of three. Q-1 had "14 a latch time in 0x21" as a fourth; Q-4: "14 is gone"
 abbrev pub LackingWrite : ℕ → ℕ → Type 0
-LackingWrite a b = DetectorWrite a b ⊎ (PowerModeWrite a b ⊎ (TestOrTrimWrite a b ⊎ LatchTimeWrite a b))
+LackingWrite a b = DetectorWrite a b ⊎ (PowerModeWrite a b ⊎ TestOrTrimWrite a b)
 
 -- 4, "x, y or z outside -2048..2047"
 abbrev pub Outside : ℤ → Type 0
@@ -94,13 +87,15 @@ abbrev pub Passing : ℕ → ℕ → Type 0
 Passing a n = (a < 0x3F) × (0x3F < a + n)
 
 -- ---- the numbers that an event, a reader or a writer is answered with
--- "A write tests 1, 2, 3; a read tests 1, 5, 6"; 4 is a sample's. In 3's place 11 to 14 stand: "3 is never given again"
+-- "A write tests 1, 2, 3; a read tests 1, 5, 6"; 4 is a sample's. In 3's place 11 to 13 stand: "3 is never given again", and
+-- by Q-4 "14 is gone". A clock, as a cycle start, tests nothing
 abbrev pub answersTo : Event → List ℕ
 answersTo powerUp = 0 ∷ []
-answersTo (write a byte) = 0 ∷ 1 ∷ 2 ∷ 11 ∷ 12 ∷ 13 ∷ 14 ∷ []
+answersTo (write a byte) = 0 ∷ 1 ∷ 2 ∷ 11 ∷ 12 ∷ 13 ∷ []
 answersTo (read a n) = 0 ∷ 1 ∷ 5 ∷ 6 ∷ []
 answersTo (sample x y z temperature) = 0 ∷ 4 ∷ []
 answersTo cycle = 0 ∷ []
+answersTo (clock us) = 0 ∷ []
 
 pub record NothingElse : Type 0 where
   pub event : (d : Device) (e : Event) → isIn (answersTo e) (gives d e .number) ≡ true

@@ -30,7 +30,7 @@ use Rattle.device.specs.Sample.{sampleAnswer, sampleOf}
 use Rattle.device.specs.Show.{heldIn, rangeIn}
 use Rattle.device.specs.Write.{writeOf}
 use Rattle.events.specs.Bank.{stored, bank}
-use Rattle.events.specs.Event.{Event, powerUp, write, read, sample, cycle, happens}
+use Rattle.events.specs.Event.{Event, powerUp, write, read, sample, cycle, clock, happens}
 use Rattle.events.specs.Run.{after}
 use Rattle.events.proofs.Runs.{bank-is}
 use Rattle.history.specs.Chip.{Said, cleared, sampled, readOut, nothing, since}
@@ -91,6 +91,7 @@ why-is es (write a byte) = range-why (after es .regs) a byte
 why-is es (read a n) = read-why a n
 why-is es (sample x y z temperature) = refl
 why-is es cycle = refl
+why-is es (clock us) = refl
 
 -- ---- how large the counts can be
 one-more : (s : Setting) (many : ℕ) (w : Said) (n : Totals) → totalled s many w n .accepted ≤ suc (n .accepted)
@@ -266,6 +267,7 @@ counts-next es (sample x y z temperature) room = go (accepted (sampleAnswer x y 
     go true q = rw q (sampled-counts es (sample x y z temperature) room (frame (axesOf (control es)) x y z) (rw q) q)
     go false q = rw q (rw q at (same-counts es (sample x y z temperature) room (rw q)))
 counts-next es cycle room = same-counts es cycle room refl
+counts-next es (clock us) room = same-counts es (clock us) room refl
 
 -- ---- the range's doubt
 number-next : (es : List Event) → suc (length es) < 2 ^ 64 → sum (length es) 1 ≡ suc (length es)
@@ -287,6 +289,7 @@ doubt-next es (write a byte) room =
 doubt-next es (read a n) room = refl
 doubt-next es (sample x y z temperature) room = refl
 doubt-next es cycle room = refl
+doubt-next es (clock us) room = refl
 
 -- ---- the account
 pub account-first : firstAccount ≡ accountOf []

@@ -13,7 +13,7 @@ use Rattle.codes.specs.Range.{rangeOf, isReservedRange}
 use Rattle.table.specs.Rows.{rowAt, merged}
 use Rattle.registers.specs.Deeds.{isReset}
 use Rattle.events.specs.Bank.{bank, stored}
-use Rattle.events.specs.Event.{Event, powerUp, write, read, sample, cycle}
+use Rattle.events.specs.Event.{Event, powerUp, write, read, sample, cycle, clock}
 use Rattle.events.proofs.Runs.{bank-length}
 use Rattle.rules.specs.Proper.{isStored}
 use Rattle.rules.proofs.Registers as registers
@@ -62,6 +62,7 @@ range-stays (write a byte) es h =
 range-stays (read a n) es h = (refl, refl)
 range-stays (sample x y z temperature) es h = (refl, refl)
 range-stays cycle es h = (refl, refl)
+range-stays (clock us) es h = (refl, refl)
 
 -- since the last end of a stretch the range is what it was there
 pub range-lasts : (es : List Event) → SameRange (accountOf es) (accountOf (lastEnd es))

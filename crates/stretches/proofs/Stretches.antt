@@ -12,7 +12,7 @@ use Rattle.laws.specs.Choice.{pick, either}
 use Rattle.codes.specs.Addresses.{rangeAt}
 use Rattle.codes.specs.Range.{rangeOf, isReservedRange}
 use Rattle.registers.specs.Deeds.{isReset}
-use Rattle.events.specs.Event.{Event, powerUp, write, read, sample, cycle}
+use Rattle.events.specs.Event.{Event, powerUp, write, read, sample, cycle, clock}
 use Rattle.history.specs.History.{readsOut}
 use Rattle.counts.specs.declared.Why.the-variants as why
 use Rattle.counts.specs.Counts.{differences, ends}
@@ -37,6 +37,7 @@ ends-is (read a n) = go (readsOut a n)
     go false = refl
 ends-is (sample x y z temperature) = refl
 ends-is cycle = refl
+ends-is (clock us) = refl
 
 -- ---- where they lie
 -- what a stretch begins with is a part of what it ends with

@@ -13,7 +13,7 @@ use Rattle.registers.specs.Answers.{accepted}
 use Rattle.registers.specs.Deeds.{isReset}
 use Rattle.device.specs.Show.{heldIn, rangeIn}
 use Rattle.events.specs.Bank.{stored}
-use Rattle.events.specs.Event.{Event, powerUp, write, read, sample, cycle, happens}
+use Rattle.events.specs.Event.{Event, powerUp, write, read, sample, cycle, clock, happens}
 use Rattle.events.specs.Run.{after}
 use Rattle.events.specs.Views.{isPowerUp, atWrite, atRead}
 use Rattle.history.specs.History.{accelerometer, readsOut}
@@ -48,6 +48,7 @@ doubtOf (write a byte ∷ es) =
 doubtOf (read a n ∷ es) = doubtOf es
 doubtOf (sample x y z temperature ∷ es) = doubtOf es
 doubtOf (cycle ∷ es) = doubtOf es
+doubtOf (clock us ∷ es) = doubtOf es
 
 -- what is known after a history: the range is by the byte that 0x0F stores, and the frames held are the ledger's
 abbrev pub accountOf : List Event → Account
@@ -67,6 +68,7 @@ whyAt (write a byte) =
 whyAt (read a n) = pick (readsOut a n) why.Readout why.Nothing
 whyAt (sample x y z temperature) = why.Nothing
 whyAt cycle = why.Nothing
+whyAt (clock us) = why.Nothing
 
 -- what has to do with the range: "a write to 0x0F, accepted or refused"; "a soft reset"
 abbrev pub isOfRange : Event → Bool

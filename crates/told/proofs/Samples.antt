@@ -8,7 +8,7 @@ use native.Mathlib.Omega.{arith}
 use lib.Dec.{eqb}
 use lib.ListN.{length}
 use Rattle.laws.specs.Choice.{pick}
-use Rattle.events.specs.Event.{Event, powerUp, write, read, sample, cycle, happens}
+use Rattle.events.specs.Event.{Event, powerUp, write, read, sample, cycle, clock, happens}
 use Rattle.events.specs.Run.{after}
 use Rattle.counts.specs.Counts.{less}
 use Rattle.stretches.specs.Histories.{countsOf, accountOf, lastEnd, unended}
@@ -31,6 +31,7 @@ sample-is (write a byte) es room = refl
 sample-is (read a n) es room = refl
 sample-is (sample x y z temperature) es room = rw (lost-by (sample x y z temperature) es room)
 sample-is cycle es room = refl
+sample-is (clock us) es room = refl
 
 -- of the records of a history
 pub samples-told : (es : List Event) → length es < 2 ^ 64 → toldOf Samples es ≡ withSamples es

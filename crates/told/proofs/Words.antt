@@ -13,7 +13,7 @@ use Rattle.laws.specs.Choice.{pick, either}
 use Rattle.codes.specs.Addresses.{rangeAt}
 use Rattle.codes.specs.Range.{rangeOf, isReservedRange}
 use Rattle.registers.specs.Deeds.{isReset}
-use Rattle.events.specs.Event.{Event, powerUp, write, read, sample, cycle}
+use Rattle.events.specs.Event.{Event, powerUp, write, read, sample, cycle, clock}
 use Rattle.history.specs.History.{readsOut}
 use Rattle.counts.specs.Counts.{ends}
 use Rattle.stretches.specs.Histories.{accountOf, whyAt, isOfRange, lastEnd, Stretch, stretches, Part, Between, Each, inside}
@@ -82,6 +82,7 @@ sets-range-is (read a n) = go (readsOut a n)
     go false = refl
 sets-range-is (sample x y z temperature) = refl
 sets-range-is cycle = refl
+sets-range-is (clock us) = refl
 
 module _ (from upto : ℕ) (some : from < upto) where
   abbrev words : Asked

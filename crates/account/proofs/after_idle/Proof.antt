@@ -1,10 +1,10 @@
 use Rattle.account.specs.Account.{countsAfter, accountAfter}
-use Rattle.account.proofs.after_cycle.Statement.{statement}
-use Rattle.account.proofs.after_cycle.Tie as tie
+use Rattle.account.proofs.after_idle.Statement.{statement}
+use Rattle.account.proofs.after_idle.Tie as tie
 
-pub after-cycle-spec : {M : Type 1} → statement M
+pub after-idle-spec : {M : Type 1} → statement M
 unfolding countsAfter accountAfter
-after-cycle-spec =
+after-idle-spec =
     tie.close
     (tie.spec
     (λ c κs. tt)
