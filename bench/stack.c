@@ -14,6 +14,7 @@ static unsigned answers; /* so that no call is left out */
 static void nothing(void) { }
 static void sample(void) { answers += twin_sample(&it, 1, -2, 3, 4); }
 static void cycle(void) { answers += twin_cycle(&it); }
+static void time_passes(void) { answers += twin_clock(&it, 250); }
 static void write_range(void) { answers += twin_write(&it, 0x0F, 0x05); }
 static void write_mode(void) { answers += twin_write(&it, 0x3E, 0x80); }
 static void soft_reset(void) { answers += twin_write(&it, 0x14, 0xB6); }
@@ -21,7 +22,7 @@ static void read_status(void) { answers += twin_read(&it, 0x0E, buffer, 1); }
 static void read_data(void) { answers += twin_read(&it, 0x02, buffer, 6); }
 static void readout(void) { answers += twin_read(&it, 0x3F, buffer, TWIN_LONGEST_READ); }
 static void refused_sample(void) { answers += twin_sample(&it, 4000, 0, 0, 0); }
-static void unknown_kind(void) { answers += twin_event(&it, 9, 0, 0, 0, 0, 0, NULL, 0); }
+static void unknown_kind(void) { answers += twin_event(&it, 9, 0, 0, 0, 0, 0, NULL, 0, 0); }
 
 /* a chip with so many samples in a mode */
 static void begin(uint8_t mode, int samples) {
@@ -86,6 +87,7 @@ static const struct {
     {"write of 0x3E", write_mode, 0x80, 32},
     {"soft reset", soft_reset, 0x80, 32},
     {"cycle start", cycle, 0x80, 32},
+    {"clock", time_passes, 0x80, 32},
     {"unknown kind", unknown_kind, 0x80, 32},
 };
 

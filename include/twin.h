@@ -20,11 +20,12 @@
 #include <string.h>
 
 /* The version of this header and of the library beside it: the last number moves where no name does, the middle one where names are
- * added, the first where a caller may have to be changed. Since 3 the watermark stays 1 above its level; 2 showed it at the level alone. */
-#define TWIN_VERSION_MAJOR 3
+ * added, the first where a caller may have to be changed. Since 4 there is a clock: twin_event takes microseconds, and 0x21 takes a latch
+ * time. Since 3 the watermark stays 1 above its level; 2 showed it at the level alone. */
+#define TWIN_VERSION_MAJOR 4
 #define TWIN_VERSION_MINOR 0
 #define TWIN_VERSION_PATCH 0
-#define TWIN_VERSION "3.0.0"
+#define TWIN_VERSION "4.0.0"
 
 #ifdef __cplusplus
 extern "C" {
@@ -32,8 +33,8 @@ extern "C" {
 
 /* ---- numbers */
 
-/* What an event answers. 3, which version 1 gave for whatever the twin lacks, is never given again: 11 to 14 say which kind of thing it
- * is. */
+/* What an event answers. 3, which version 1 gave for whatever the twin lacks, is never given again: 11 to 13 say which kind of thing it
+ * is. Nor is 14, which versions 2 and 3 gave for a latch time. */
 enum twin_answer {
     TWIN_DONE = 0,             /* done, or a write that the chip ignores */
     TWIN_NO_ADDRESS = 1,       /* address above 0x3F */
@@ -45,7 +46,6 @@ enum twin_answer {
     TWIN_NO_DETECTOR = 11,     /* write of a detector bit in 0x16 to 0x18 */
     TWIN_NO_POWER_MODE = 12,   /* write of a power mode in 0x11 */
     TWIN_NO_TEST_OR_TRIM = 13, /* write of self-test, memory, calibration or offset in 0x32, 0x33, 0x36, 0x38 to 0x3A */
-    TWIN_NO_LATCH_TIME = 14,   /* write of a latch time in 0x21 */
     /* for a call that is no event at all; these are looked at first */
     TWIN_MISFIT = 253,         /* power-up of a record that is not aligned, or with a library that needs more than TWIN_ROOM */
     TWIN_BAD_BUFFER = 254,     /* NULL with a count that is not 0, or a buffer that overlaps the record */
@@ -53,7 +53,7 @@ enum twin_answer {
 };
 
 /* The kinds of event, as in the bench log. */
-enum twin_kind { TWIN_WRITE = 1, TWIN_READ = 2, TWIN_SAMPLE = 3, TWIN_CYCLE = 4 };
+enum twin_kind { TWIN_WRITE = 1, TWIN_READ = 2, TWIN_SAMPLE = 3, TWIN_CYCLE = 4, TWIN_CLOCK = 5 };
 
 /* What a pin shows. */
 enum twin_level { TWIN_LOW = 0, TWIN_HIGH = 1, TWIN_RELEASED = 2 };
@@ -74,7 +74,7 @@ size_t twin_size(void);      /* the bytes of the library's record, at most TWIN_
 size_t twin_alignment(void); /* what its address is a multiple of */
 void twin_power_up(struct twin *twin);
 uint8_t twin_event(struct twin *twin, uint8_t kind, uint8_t address, uint8_t byte, int16_t x, int16_t y, int16_t z, uint8_t *buffer,
-                   size_t length);
+                   size_t length, uint32_t microseconds);
 uint8_t twin_pins(const struct twin *twin);
 
 /* Whether it was powered up: the library's record begins with register 0x00, which never changes. A record that was left as the memory
@@ -105,14 +105,15 @@ static inline uint8_t twin_checked_power_up(struct twin *twin) {
 }
 #define twin_power_up twin_checked_power_up
 
-/* One event: TWIN_WRITE (address, byte), TWIN_READ (address; length bytes into buffer), TWIN_SAMPLE (x, y, z; byte is the temperature)
- * or TWIN_CYCLE. What the kind does not name does not matter, but the buffer is looked at for every kind: NULL needs length 0. */
+/* One event: TWIN_WRITE (address, byte), TWIN_READ (address; length bytes into buffer), TWIN_SAMPLE (x, y, z; byte is the temperature),
+ * TWIN_CYCLE or TWIN_CLOCK (microseconds). What the kind does not name does not matter, but the buffer is looked at for every kind: NULL
+ * needs length 0. */
 static inline uint8_t twin_checked_event(struct twin *twin, uint8_t kind, uint8_t address, uint8_t byte, int16_t x, int16_t y, int16_t z,
-                                         uint8_t *buffer, size_t length) {
+                                         uint8_t *buffer, size_t length, uint32_t microseconds) {
     uint8_t none = 0;
     if (!twin_is_powered(twin)) return TWIN_NOT_POWERED;
     if (twin_is_bad_buffer(twin, buffer, length)) return TWIN_BAD_BUFFER;
-    return twin_event(twin, kind, address, byte, x, y, z, buffer == NULL ? &none : buffer, length);
+    return twin_event(twin, kind, address, byte, x, y, z, buffer == NULL ? &none : buffer, length, microseconds);
 }
 #define twin_event twin_checked_event
 
@@ -124,12 +125,12 @@ static inline uint8_t twin_checked_pins(const struct twin *twin) {
 
 /* A register write. */
 static inline uint8_t twin_write(struct twin *twin, uint8_t address, uint8_t byte) {
-    return twin_event(twin, TWIN_WRITE, address, byte, 0, 0, 0, NULL, 0);
+    return twin_event(twin, TWIN_WRITE, address, byte, 0, 0, 0, NULL, 0, 0);
 }
 
 /* A burst read: length bytes from address on into buffer; at 0x3F, the FIFO's frames. */
 static inline uint8_t twin_read(struct twin *twin, uint8_t address, uint8_t *buffer, size_t length) {
-    return twin_event(twin, TWIN_READ, address, 0, 0, 0, 0, buffer, length);
+    return twin_event(twin, TWIN_READ, address, 0, 0, 0, 0, buffer, length, 0);
 }
 
 /* The nearest number of 16 bits. What it moves lies outside -2048..2047 before and after. */
@@ -139,12 +140,18 @@ static inline int16_t twin_nearest_16(int value) {
 
 /* A sample, as counts of 12 bits, and the byte of the temperature register 0x08. */
 static inline uint8_t twin_sample(struct twin *twin, int x, int y, int z, uint8_t temperature) {
-    return twin_event(twin, TWIN_SAMPLE, 0, temperature, twin_nearest_16(x), twin_nearest_16(y), twin_nearest_16(z), NULL, 0);
+    return twin_event(twin, TWIN_SAMPLE, 0, temperature, twin_nearest_16(x), twin_nearest_16(y), twin_nearest_16(z), NULL, 0, 0);
 }
 
 /* The start of an acquisition cycle. */
 static inline uint8_t twin_cycle(struct twin *twin) {
-    return twin_event(twin, TWIN_CYCLE, 0, 0, 0, 0, 0, NULL, 0);
+    return twin_event(twin, TWIN_CYCLE, 0, 0, 0, 0, 0, NULL, 0, 0);
+}
+
+/* Time that passes; no other event takes any. Two clocks in a row equal one of their sum, so a time of more than 32 bits may be cut
+ * anywhere. */
+static inline uint8_t twin_clock(struct twin *twin, uint32_t microseconds) {
+    return twin_event(twin, TWIN_CLOCK, 0, 0, 0, 0, 0, NULL, 0, microseconds);
 }
 
 /* The level of a pin: TWIN_LOW, TWIN_HIGH or TWIN_RELEASED; or TWIN_NOT_POWERED. */
@@ -171,7 +178,6 @@ static inline const char *twin_answer_name(uint8_t answer) {
     case TWIN_NO_DETECTOR: return "detector that the twin lacks";
     case TWIN_NO_POWER_MODE: return "power mode that the twin lacks";
     case TWIN_NO_TEST_OR_TRIM: return "self-test, memory, calibration or offset that the twin lacks";
-    case TWIN_NO_LATCH_TIME: return "latch time that the twin lacks";
     case TWIN_MISFIT: return "record that does not fit the library";
     case TWIN_BAD_BUFFER: return "no buffer, or one that overlaps the record";
     case TWIN_NOT_POWERED: return "record that was not powered up";

@@ -35,6 +35,7 @@ static uint8_t a_byte(uint8_t address) {
     case 0x17: return (uint8_t)(below(8) << 4);            /* which statuses are enabled */
     case 0x30: return (uint8_t)below(below(2) ? 5 : 35);   /* a level that few frames reach, or one up to 34 */
     case 0x3E: return (uint8_t)(below(3) << 6 | below(4)); /* a mode, and the axes of a frame */
+    case 0x21: return (uint8_t)below(16);
     default: return (uint8_t)below(8);
     }
 }
@@ -59,11 +60,25 @@ static bool sample_both(void) {
     return twin_sample(&twin, x, y, z, temperature) == (uint8_t)peer_sample(&peer, x, y, z, temperature);
 }
 
+/* a latch time or some microseconds around it, a part of one, or anything in 32 bits */
+static uint32_t a_time(void) {
+    static const uint32_t times[] = {250, 500, 1000, 12500, 25000, 50000, 250000, 500000, 1000000, 2000000, 4000000, 8000000};
+    uint32_t time = times[below(sizeof times / sizeof *times)];
+    if (below(40) == 0) return (uint32_t)(below(0x10000) << 16 | below(0x10000));
+    return below(2) ? time + below(3) - 1 : below(time);
+}
+
+static bool clock_both(void) {
+    uint32_t microseconds = a_time();
+    return twin_clock(&twin, microseconds) == (uint8_t)peer_clock(&peer, microseconds);
+}
+
 static bool event_both(void) {
     unsigned kind = below(16);
     if (kind < 4) return write_both();
     if (kind < 7) return read_both();
-    if (kind < 15) return sample_both();
+    if (kind < 14) return sample_both();
+    if (kind < 15) return clock_both();
     return twin_cycle(&twin) == (uint8_t)peer_cycle_start(&peer);
 }
 

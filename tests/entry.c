@@ -25,7 +25,7 @@ static bool read_same(struct twin *a, struct twin *b, uint8_t address, size_t le
         && memcmp(of_a, of_b, length) == 0;
 }
 
-/* whether two chips show the same: registers, frames, pins, and what some motion does to them; works on copies */
+/* whether two chips show the same: registers, frames, pins, and what some motion and time do to them; works on copies */
 static bool same(const struct twin *one, const struct twin *other) {
     struct twin a = *one, b = *other;
     for (int turn = 0; turn < 6; turn++) {
@@ -33,6 +33,8 @@ static bool same(const struct twin *one, const struct twin *other) {
         if (turn == 0 && !read_same(&a, &b, 0x3F, 192)) return false;
         twin_sample(&a, 100 * turn, -turn, 0, 0);
         twin_sample(&b, 100 * turn, -turn, 0, 0);
+        twin_clock(&a, 200);
+        twin_clock(&b, 200);
     }
     return true;
 }
@@ -43,8 +45,8 @@ static void unknown_kinds(struct twin *twin) {
     uint8_t buffer[16];
     memset(buffer, FILL, sizeof buffer);
     for (int kind = 0; kind < 256; kind++) {
-        if (kind >= TWIN_WRITE && kind <= TWIN_CYCLE) continue;
-        HOLDS(twin_event(twin, (uint8_t)kind, 0x3F, 0xB6, 1, 2, 3, buffer, sizeof buffer) == TWIN_NO_KIND);
+        if (kind >= TWIN_WRITE && kind <= TWIN_CLOCK) continue;
+        HOLDS(twin_event(twin, (uint8_t)kind, 0x3F, 0xB6, 1, 2, 3, buffer, sizeof buffer, 4) == TWIN_NO_KIND);
         HOLDS(all(buffer, sizeof buffer, FILL));
     }
     HOLDS(same(&before, twin));
@@ -77,7 +79,7 @@ static void written(struct twin *twin, uint8_t address, int byte, uint8_t answer
     HOLDS(answer == TWIN_DONE || same(&before, twin));
 }
 
-/* every byte to each register that has bits of which a 1 is something that the twin lacks; a latch time is a nibble of 0x21 */
+/* every byte to each register that has bits of which a 1 is something that the twin lacks */
 static void lacking(struct twin *twin) {
     static const struct {
         uint8_t address, bits, answer;
@@ -85,10 +87,43 @@ static void lacking(struct twin *twin) {
                  {0x18, 0x07, TWIN_NO_DETECTOR},     {0x32, 0x03, TWIN_NO_TEST_OR_TRIM}, {0x33, 0x0B, TWIN_NO_TEST_OR_TRIM},
                  {0x36, 0xE7, TWIN_NO_TEST_OR_TRIM}, {0x38, 0xFF, TWIN_NO_TEST_OR_TRIM}, {0x39, 0xFF, TWIN_NO_TEST_OR_TRIM},
                  {0x3A, 0xFF, TWIN_NO_TEST_OR_TRIM}};
-    for (int byte = 0; byte < 256; byte++) {
+    for (int byte = 0; byte < 256; byte++)
         for (size_t i = 0; i < sizeof lacks / sizeof lacks[0]; i++)
             written(twin, lacks[i].address, byte, byte & lacks[i].bits ? lacks[i].answer : (uint8_t)TWIN_DONE);
-        written(twin, 0x21, byte, byte % 8 == 0 || byte % 8 == 7 ? TWIN_DONE : TWIN_NO_LATCH_TIME);
+}
+
+/* a chip that has just set any-motion, mapped to INT1, with this byte in 0x21 */
+static void moved(struct twin *twin, int latch) {
+    HOLDS(twin_power_up(twin) == TWIN_DONE && twin_write(twin, 0x21, (uint8_t)latch) == TWIN_DONE);
+    HOLDS(twin_write(twin, 0x16, 0x01) == TWIN_DONE && twin_write(twin, 0x19, 0x04) == TWIN_DONE);
+    HOLDS(twin_sample(twin, 0, 0, 0, 0) == TWIN_DONE && twin_sample(twin, 500, 0, 0, 0) == TWIN_DONE);
+}
+
+/* whether status, mark and pin show the motion, or none of them does */
+static bool shows_motion(struct twin *twin, bool motion) {
+    uint8_t status[3];
+    return twin_read(twin, 0x09, status, sizeof status) == TWIN_DONE && status[0] == (motion ? 0x04 : 0)
+        && status[2] == (motion ? 0x01 : 0) && twin_int1(twin) == (motion ? TWIN_HIGH : TWIN_LOW);
+}
+
+/* the low nibbles of 0x21 that hold for a time: to the last microsecond before it, whatever the samples are, and no longer */
+static void latch_times(struct twin *twin) {
+    static const uint32_t times[16] = {0, 250000, 500000, 1000000, 2000000, 4000000, 8000000, 0,
+                                       0, 250,    500,    1000,    12500,   25000,   50000,   0};
+    for (int byte = 0; byte < 256; byte++) {
+        uint32_t time = times[byte % 16];
+        moved(twin, byte);
+        HOLDS(shows_motion(twin, true));
+        if (time == 0) {
+            HOLDS(twin_clock(twin, UINT32_MAX) == TWIN_DONE && shows_motion(twin, true));
+            HOLDS(twin_sample(twin, 500, 0, 0, 0) == TWIN_DONE && shows_motion(twin, byte % 8 == 7));
+            continue;
+        }
+        HOLDS(twin_clock(twin, time - 1) == TWIN_DONE && twin_sample(twin, 500, 0, 0, 0) == TWIN_DONE && shows_motion(twin, true));
+        HOLDS(twin_sample(twin, 0, 0, 0, 0) == TWIN_DONE && twin_clock(twin, 0) == TWIN_DONE && shows_motion(twin, true));
+        HOLDS(twin_clock(twin, 1) == TWIN_DONE && shows_motion(twin, false));
+        moved(twin, byte);
+        HOLDS(twin_clock(twin, UINT32_MAX) == TWIN_DONE && shows_motion(twin, false));
     }
 }
 
@@ -101,9 +136,9 @@ static void refused_record(struct twin *twin) {
     HOLDS(twin_write(twin, 0x0F, 0x03) == TWIN_NOT_POWERED && twin_write(twin, 0x40, 0) == TWIN_NOT_POWERED);
     HOLDS(twin_read(twin, 0x00, buffer, 1) == TWIN_NOT_POWERED && twin_read(twin, 0x3F, NULL, 6) == TWIN_NOT_POWERED);
     HOLDS(twin_sample(twin, 1, 2, 3, 4) == TWIN_NOT_POWERED && twin_sample(twin, INT_MAX, 0, 0, 0) == TWIN_NOT_POWERED);
-    HOLDS(twin_cycle(twin) == TWIN_NOT_POWERED);
+    HOLDS(twin_cycle(twin) == TWIN_NOT_POWERED && twin_clock(twin, 250) == TWIN_NOT_POWERED);
     for (int kind = 0; kind < 256; kind++)
-        HOLDS(twin_event(twin, (uint8_t)kind, 0, 0, 0, 0, 0, buffer, sizeof buffer) == TWIN_NOT_POWERED);
+        HOLDS(twin_event(twin, (uint8_t)kind, 0, 0, 0, 0, 0, buffer, sizeof buffer, 0) == TWIN_NOT_POWERED);
     HOLDS(twin_pins(twin) == TWIN_NOT_POWERED && twin_int1(twin) == TWIN_NOT_POWERED && twin_int2(twin) == TWIN_NOT_POWERED);
     HOLDS(all(buffer, sizeof buffer, FILL));
     HOLDS(twin == NULL || memcmp(&before, twin, sizeof before) == 0);
@@ -141,7 +176,7 @@ static void overlaps(void) {
             bool overlap = at < RECORD + TWIN_ROOM && at + lengths[n] > RECORD;
             memcpy(before, area, sizeof before);
             HOLDS(twin_read(twin, 0x3F, base + at, lengths[n]) == (overlap ? TWIN_BAD_BUFFER : TWIN_DONE));
-            HOLDS(twin_event(twin, TWIN_CYCLE, 0, 0, 0, 0, 0, base + at, lengths[n]) == (overlap ? TWIN_BAD_BUFFER : TWIN_DONE));
+            HOLDS(twin_event(twin, TWIN_CLOCK, 0, 0, 0, 0, 0, base + at, lengths[n], 1) == (overlap ? TWIN_BAD_BUFFER : TWIN_DONE));
             if (overlap) HOLDS(memcmp(before, area, sizeof before) == 0);
             else HOLDS(all(base + at, lengths[n], 0));
         }
@@ -153,10 +188,10 @@ static void overlaps(void) {
 static void no_buffer(struct twin *twin) {
     struct twin before = *twin;
     for (size_t length = 1; length < 300; length++) HOLDS(twin_read(twin, 0x3F, NULL, length) == TWIN_BAD_BUFFER);
-    HOLDS(twin_read(twin, 0x40, NULL, SIZE_MAX) == TWIN_BAD_BUFFER && twin_event(twin, 0, 0, 0, 0, 0, 0, NULL, 1) == TWIN_BAD_BUFFER);
+    HOLDS(twin_read(twin, 0x40, NULL, SIZE_MAX) == TWIN_BAD_BUFFER && twin_event(twin, 0, 0, 0, 0, 0, 0, NULL, 1, 0) == TWIN_BAD_BUFFER);
     HOLDS(memcmp(&before, twin, sizeof before) == 0);
     HOLDS(twin_read(twin, 0x3F, NULL, 0) == TWIN_BAD_LENGTH && twin_read(twin, 0x40, NULL, 0) == TWIN_NO_ADDRESS);
-    HOLDS(twin_event(twin, 9, 0, 0, 0, 0, 0, NULL, 0) == TWIN_NO_KIND);
+    HOLDS(twin_event(twin, 9, 0, 0, 0, 0, 0, NULL, 0, 0) == TWIN_NO_KIND);
     HOLDS(same(&before, twin));
 }
 
@@ -219,7 +254,7 @@ static void pins(struct twin *twin) {
 
 /* each answer has words of its own, and no other number has any */
 static void names(void) {
-    static const uint8_t answers[] = {0, 1, 2, 4, 5, 6, 8, 11, 12, 13, 14, 253, 254, 255};
+    static const uint8_t answers[] = {0, 1, 2, 4, 5, 6, 8, 11, 12, 13, 253, 254, 255};
     for (int number = 0; number < 256; number++) {
         bool is_answer = memchr(answers, number, sizeof answers) != NULL;
         HOLDS((strcmp(twin_answer_name((uint8_t)number), "not an answer") == 0) == !is_answer);
@@ -253,6 +288,7 @@ static void at_the_edge(uint8_t *page, uint8_t *buffers) {
     readout(twin, buffers + PAGE);
     refused_events(twin);
     lacking(twin);
+    latch_times(twin);
     unknown_kinds(twin);
     no_buffer(twin);
     HOLDS(all((uint8_t *)twin + twin_size(), TWIN_ROOM - twin_size(), 0));

@@ -16,8 +16,8 @@ void twin_power_up(struct twin *twin) {
     *(unsigned char *)twin = TWIN_CHIP;
 }
 uint8_t twin_event(struct twin *twin, uint8_t kind, uint8_t address, uint8_t byte, int16_t x, int16_t y, int16_t z, uint8_t *buffer,
-                   size_t length) {
-    (void)twin, (void)kind, (void)address, (void)byte, (void)x, (void)y, (void)z, (void)buffer, (void)length;
+                   size_t length, uint32_t microseconds) {
+    (void)twin, (void)kind, (void)address, (void)byte, (void)x, (void)y, (void)z, (void)buffer, (void)length, (void)microseconds;
     calls++;
     return 0;
 }
@@ -46,11 +46,11 @@ static bool is_powered_up(size_t its_size, size_t its_alignment) {
 int main(void) {
     int failed = 0;
     failed += !is_powered_up(1, 1);
-    failed += !is_powered_up(312, 8);
+    failed += !is_powered_up(320, 8);
     failed += !is_powered_up(TWIN_ROOM, 8);
     failed += is_powered_up(TWIN_ROOM + 1, 8);
     failed += is_powered_up(SIZE_MAX, 8);
-    failed += is_powered_up(312, 16);
+    failed += is_powered_up(320, 16);
     printf("6 %d\n", failed);
     return failed != 0;
 }

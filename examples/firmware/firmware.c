@@ -1,9 +1,10 @@
-/* Recorder firmware against the twin: a driver's usual start-up, a burst readout, and an overrun that is noticed. */
+/* Recorder firmware against the twin: a driver's usual start-up, a burst readout, an overrun that is noticed, and a jolt that is shown
+ * for as long as the latch time says. */
 #include <stdio.h>
 #include "twin.h"
 
-enum { CHIP_ID = 0x00, FIFO_STATUS = 0x0E, RANGE = 0x0F, BANDWIDTH = 0x10, SOFT_RESET = 0x14, INT_ENABLE = 0x17, INT_MAP = 0x1A,
-       WATERMARK = 0x30, FIFO_CONFIG = 0x3E, FIFO_DATA = 0x3F };
+enum { CHIP_ID = 0x00, INT_STATUS = 0x09, FIFO_STATUS = 0x0E, RANGE = 0x0F, BANDWIDTH = 0x10, SOFT_RESET = 0x14, MOTION_ENABLE = 0x16,
+       INT_ENABLE = 0x17, INT_MAP = 0x1A, LATCH = 0x21, WATERMARK = 0x30, FIFO_CONFIG = 0x3E, FIFO_DATA = 0x3F };
 enum { FRAME = 6 };
 
 static struct twin chip; /* the bus's other end */
@@ -26,7 +27,8 @@ static int start(void) {
     if (!bus_read(CHIP_ID, &id, 1) || id != TWIN_CHIP) return 0;
     printf("chip %02X\n", id);
     return bus_write(SOFT_RESET, 0xB6) && bus_write(RANGE, 0x08) && bus_write(BANDWIDTH, 0x0C) && bus_write(INT_MAP, 0x02)
-        && bus_write(INT_ENABLE, 0x40) && bus_write(WATERMARK, 0x04) && bus_write(FIFO_CONFIG, 0x40);
+        && bus_write(INT_ENABLE, 0x40) && bus_write(MOTION_ENABLE, 0x07) && bus_write(LATCH, 0x01) && bus_write(WATERMARK, 0x04)
+        && bus_write(FIFO_CONFIG, 0x40);
 }
 
 /* Two signed bytes of a frame as a count of 12 bits. */
@@ -53,6 +55,13 @@ static void show_int1(void) {
     printf("INT1 %s\n", twin_int1(&chip) == TWIN_HIGH ? "high: four frames wait, or more" : "low");
 }
 
+static void show_motion_after(uint32_t microseconds) {
+    uint8_t status;
+    twin_clock(&chip, microseconds);
+    if (!bus_read(INT_STATUS, &status, 1)) return;
+    printf("%lu us later: motion %s\n", (unsigned long)microseconds, status & 0x04 ? "shown" : "over");
+}
+
 int main(void) {
     uint8_t answer, two[2];
     bus_write(RANGE, 0x08); /* too early */
@@ -66,6 +75,9 @@ int main(void) {
     samples(5, 40); /* the firmware is late */
     show_int1();
     drain();
+    samples(500, 1); /* a jolt; the latch time is 250 ms */
+    show_motion_after(249999);
+    show_motion_after(1);
     bus_read(FIFO_STATUS, NULL, 1);
     bus_read(FIFO_CONFIG, two, 2);
     return 0;

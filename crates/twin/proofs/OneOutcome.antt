@@ -23,14 +23,14 @@ pub step-settled : Settled step.ended (λ M. step.clauses) (λ M. step.spec)
 step-settled = settles (λ κs a r r′ s s′ p q.
     let e : lent-in r (s .1 .0) ≡ lent-in r′ (s′ .1 .0) = meet (p .0) (q .0) in (
       λ i. record { number = e i .number; device = holding (e i .device) (meet (p .1) (q .1) i) },
-      λ i. (tt, (e i .device .frames, (tt, (tt, (tt, (tt, (tt, (tt, (meet (p .2) (q .2) i, tt))))))))),
+      λ i. (tt, (e i .device .frames, (tt, (tt, (tt, (tt, (tt, (tt, (meet (p .2) (q .2) i, (tt, tt)))))))))),
     ))
 
 pub pins-code-settled : Settled pins-code.ended (λ M. pins-code.clauses) (λ M. pins-code.spec)
 pins-code-settled = settles (λ κs a r r′ s s′ p q. (meet p q, refl))
 
 pub twin-event-settled : Settled twin-event.ended (λ M. twin-event.clauses) (λ M. twin-event.spec)
-twin-event-settled = settles (λ κs a r r′ s s′ p q. (meet (p .0) (q .0), λ i. (meet (p .1) (q .1) i, (tt, (tt, (tt, (tt, (tt, (tt, (meet (p .2) (q .2) i, tt))))))))))
+twin-event-settled = settles (λ κs a r r′ s s′ p q. (meet (p .0) (q .0), λ i. (meet (p .1) (q .1) i, (tt, (tt, (tt, (tt, (tt, (tt, (meet (p .2) (q .2) i, (tt, tt)))))))))))
 
 pub twin-power-up-settled : Settled twin-power-up.ended (λ M. twin-power-up.clauses) (λ M. twin-power-up.spec)
 twin-power-up-settled = settles (λ κs a r r′ s s′ p q. (refl, λ i. (meet p q i, tt)))

@@ -11,24 +11,26 @@ use Rattle.device.specs.Show.{pinsOf}
 use Rattle.device.specs.Read.{bufferAfter}
 use Rattle.device.specs.declared.Device.{Device}
 use Rattle.device.specs.declared.Answered.{Answered}
-use Rattle.events.specs.Event.{Event, powerUp, write, read, sample, cycle, happens}
+use Rattle.events.specs.Event.{Event, powerUp, write, read, sample, cycle, clock, happens}
 use Rattle.benchlog.specs.Answers.{foundNumber}
-use Rattle.benchlog.specs.Format.{writeKind, readKind, sampleKind, cycleKind}
+use Rattle.benchlog.specs.Format.{writeKind, readKind, sampleKind, cycleKind, clockKind}
 use Rattle.benchlog.specs.declared.Found.the-variants.{WrongRecord}
 use Rattle.twin.specs.declared.Stepped.{Stepped}
 
--- "1 write (address, byte; ..), 2 read (address, count; ..), 3 sample (x, y, z .., temperature; ..), 4 cycle start": the event of a
--- kind, an address, a byte, which is the temperature of a sample, x, y, z, and the count of bytes to read. Any other kind has none.
-abbrev pub kinds : ℕ → ℕ → ℤ → ℤ → ℤ → ℕ → List (Key (Option Event))
-kinds address byte x y z count =
+-- "1 write (address, byte; ..), 2 read (address, count; ..), 3 sample (x, y, z .., temperature; ..), 4 cycle start", and Q-4: "Add a
+-- clock event with a 32-bit count of microseconds to the device, and log kind 5": the event of a kind, an address, a byte, which is
+-- the temperature of a sample, x, y, z, the count of bytes to read, and the microseconds. Any other kind has none.
+abbrev pub kinds : ℕ → ℕ → ℤ → ℤ → ℤ → ℕ → ℕ → List (Key (Option Event))
+kinds address byte x y z count us =
     writeKind means some (write address byte)
     ∷ readKind means some (read address count)
     ∷ sampleKind means some (sample x y z byte)
     ∷ cycleKind means some cycle
+    ∷ clockKind means some (clock us)
     ∷ []
 
-unfoldable pub asked : ℕ → ℕ → ℕ → ℤ → ℤ → ℤ → ℕ → Option Event
-asked kind address byte x y z count = meaningOf (kinds address byte x y z count) none kind
+unfoldable pub asked : ℕ → ℕ → ℕ → ℤ → ℤ → ℤ → ℕ → ℕ → Option Event
+asked kind address byte x y z count us = meaningOf (kinds address byte x y z count us) none kind
 
 -- an event's answer by its number
 abbrev pub numberedOf : Answered → Stepped
@@ -46,6 +48,7 @@ lentBy d (write address byte) buffer = buffer
 lentBy d (read address count) buffer = bufferAfter d address buffer
 lentBy d (sample x y z temperature) buffer = buffer
 lentBy d cycle buffer = buffer
+lentBy d (clock us) buffer = buffer
 
 abbrev pub lentAt : Device → Option Event → List ℕ → List ℕ
 lentAt d (some e) buffer = lentBy d e buffer

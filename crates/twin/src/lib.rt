@@ -6,6 +6,7 @@ ghost use Rattle.device.proofs.Device.Laws.{mir as deviceType};
 ghost use Rattle.fifo.specs.Flat.{flatAt};
 ghost use Rattle.device.specs.Device.{powerUp, withFlat};
 ghost use Rattle.twin.specs.Entry.{asked, numberedOf, stepOf, lentAt, pinsCode, levelCode};
+use benchlog::CLOCK;
 use benchlog::CYCLE;
 use benchlog::Found;
 use benchlog::READ;
@@ -36,7 +37,8 @@ fn numbered(done: Answered) -> Stepped
 }
 
 // One event, by its kind in the log: a write of a byte, a read of as many bytes as the buffer has, a sample whose temperature is the
-// byte, or the start of a cycle. Any other kind is refused. The FIFO's store is lent; the record's own is neither looked at nor changed.
+// byte, the start of a cycle, or a clock of so many microseconds. Any other kind is refused. The FIFO's store is lent; the record's own
+// is neither looked at nor changed.
 pub fn step(
     device: Device,
     frames: &mut [u8; ROOM],
@@ -47,17 +49,19 @@ pub fn step(
     y: i16,
     z: i16,
     buffer: &mut [u8],
+    microseconds: u32,
 ) -> Stepped
     ensures { λ r. ⌜ (record { number = r .number; device = withFlat (r .device) (flatAt (now (frames .exit)) (r .device .fifo)) }
-        ≡ stepOf (withFlat device (flatAt (now (frames .entry)) (device .fifo))) (asked kind address byte x y z (length (now (buffer .entry)))))
+        ≡ stepOf (withFlat device (flatAt (now (frames .entry)) (device .fifo))) (asked kind address byte x y z (length (now (buffer .entry))) microseconds))
         × (r .device .frames ≡ device .frames)
-        × (now (buffer .exit) ≡ lentAt (withFlat device (flatAt (now (frames .entry)) (device .fifo))) (asked kind address byte x y z (length (now (buffer .entry)))) (now (buffer .entry))) ⌝ }
+        × (now (buffer .exit) ≡ lentAt (withFlat device (flatAt (now (frames .entry)) (device .fifo))) (asked kind address byte x y z (length (now (buffer .entry))) microseconds) (now (buffer .entry))) ⌝ }
 {
     match kind {
         WRITE => numbered(device.write_in(frames, address, byte)),
         READ => numbered(device.read_in(frames, address, buffer)),
         SAMPLE => numbered(device.sample_in(frames, x, y, z, byte)),
         CYCLE => numbered(device.start_cycle()),
+        CLOCK => numbered(device.clock(microseconds)),
         _ => Stepped {
             number: found_number_of(Found::WrongRecord),
             device,
@@ -97,12 +101,24 @@ pub extern "C" fn twin_event(
     y: i16,
     z: i16,
     buffer: &mut [u8],
+    microseconds: u32,
 ) -> u8
-    ensures { λ r. ⌜ (r ≡ stepOf (now (d .entry)) (asked kind address byte x y z (length (now (buffer .entry)))) .number)
-        × (now (d .exit) ≡ stepOf (now (d .entry)) (asked kind address byte x y z (length (now (buffer .entry)))) .device)
-        × (now (buffer .exit) ≡ lentAt (now (d .entry)) (asked kind address byte x y z (length (now (buffer .entry)))) (now (buffer .entry))) ⌝ }
+    ensures { λ r. ⌜ (r ≡ stepOf (now (d .entry)) (asked kind address byte x y z (length (now (buffer .entry))) microseconds) .number)
+        × (now (d .exit) ≡ stepOf (now (d .entry)) (asked kind address byte x y z (length (now (buffer .entry))) microseconds) .device)
+        × (now (buffer .exit) ≡ lentAt (now (d .entry)) (asked kind address byte x y z (length (now (buffer .entry))) microseconds) (now (buffer .entry))) ⌝ }
 {
-    let s = step(*d, &mut d.frames, kind, address, byte, x, y, z, buffer);
+    let s = step(
+        *d,
+        &mut d.frames,
+        kind,
+        address,
+        byte,
+        x,
+        y,
+        z,
+        buffer,
+        microseconds,
+    );
     *d = d.with_rest_of(s.device);
     s.number
 }
@@ -128,7 +144,7 @@ pub extern "C" fn twin_pins(d: &Device) -> u8
 pub extern "C" fn twin_size() -> usize
     ensures { λ r. ⌜ r ≡ size deviceType ⌝ }
 {
-    312
+    320
 }
 
 #[no_mangle]

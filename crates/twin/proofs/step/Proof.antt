@@ -3,6 +3,7 @@ use mir.Facts.{toZ-ofZ}
 use borrow.Author.Needs.{needs}
 use borrow.Author.Tests.{ne-eqb}
 use Rattle.device.specs.Sample.{cycleOf}
+use Rattle.device.specs.Clock.{clockOf}
 use Rattle.twin.specs.Entry.{asked, numberedOf}
 use Rattle.twin.proofs.step.Statement.{statement}
 use Rattle.twin.proofs.step.Tie as tie
@@ -35,15 +36,22 @@ cycle-returns c =
     let k = c .before .before .match .keys4 in
     (simp (k, c .numbered4 .ensures, c .before .start-cycle .ensures), simp (c .numbered4 .ensures, c .before .start-cycle .ensures), simp (k))
 
-refused-returns : tie.Need-returns-5
+clock-returns : tie.Need-returns-5
+unfolding asked clockOf
+clock-returns c =
+    let k = c .before .before .match .keys5 in
+    (simp (k, c .numbered5 .ensures, c .before .clock .ensures), simp (c .numbered5 .ensures, c .before .clock .ensures), simp (k))
+
+refused-returns : tie.Need-returns-6
 unfolding asked
 refused-returns c =
     let n = c .before .match .rest in
-    let is1 = ne-eqb _ 1 (n .0 .0 .0 .1) in
-    let is2 = ne-eqb _ 2 (n .0 .0 .1) in
-    let is3 = ne-eqb _ 3 (n .0 .1) in
-    let is4 = ne-eqb _ 4 (n .1) in
-    (simp (is1, is2, is3, is4, c .found-number-of .ensures), refl, simp (is1, is2, is3, is4))
+    let is1 = ne-eqb _ 1 (n .0 .0 .0 .0 .1) in
+    let is2 = ne-eqb _ 2 (n .0 .0 .0 .1) in
+    let is3 = ne-eqb _ 3 (n .0 .0 .1) in
+    let is4 = ne-eqb _ 4 (n .0 .1) in
+    let is5 = ne-eqb _ 5 (n .1) in
+    (simp (is1, is2, is3, is4, is5, c .found-number-of .ensures), refl, simp (is1, is2, is3, is4, is5))
 
 pub step-spec : {M : Type 1} → statement M
 step-spec =
@@ -58,9 +66,12 @@ step-spec =
     (λ c κs. tt)
     (λ c κs. tt)
     (λ c κs. tt)
+    (λ c κs. tt)
+    (λ c κs. tt)
     write-returns
     (λ c. search needs)
     read-returns
     sample-returns
     cycle-returns
+    clock-returns
     refused-returns)
