@@ -104,6 +104,7 @@ enum end account_record(struct account *a, const uint8_t *body, enum peer_answer
     case SAMPLE:
         return count_sample(a);
     case CYCLE_START:
+    case CLOCK:
         break;
     }
     return GOES_ON;

@@ -28,6 +28,14 @@ static void check(bool holds, const char *what, ...)
     va_end(values);
 }
 
+static unsigned draw(unsigned limit)
+{
+    static uint32_t state = 1;
+
+    state = state * 1664525u + 1013904223u;
+    return (state >> 16) % limit;
+}
+
 /* ---- helpers on a twin ---- */
 
 static size_t from_hex(const char *hex, uint8_t *bytes)
@@ -73,6 +81,16 @@ static struct peer fresh(uint8_t address, uint8_t byte)
     peer_power_up(&t);
     peer_write(&t, address, byte);
     return t;
+}
+
+/* Whether two twins are the same in all but padding; neither part of struct type has any. */
+static bool same(const struct peer *a, const struct peer *b)
+{
+    return memcmp(a->reg, b->reg, sizeof a->reg) == 0 &&
+           memcmp(a->lock, b->lock, sizeof a->lock) == 0 &&
+           memcmp(a->locked, b->locked, sizeof a->locked) == 0 && a->fresh_data == b->fresh_data &&
+           memcmp(&a->fifo, &b->fifo, sizeof a->fifo) == 0 &&
+           memcmp(&a->motion, &b->motion, sizeof a->motion) == 0;
 }
 
 static bool pins_are(const struct peer *t, enum peer_level int1, enum peer_level int2)
@@ -149,8 +167,8 @@ static void p8_to_p10(void)
     sample_x(&t, 0);
     sample_x(&t, -5);
     check(gives(&t, 0x09, "040009"), "P9 afresh 0, -5: 0x0B is 09");
-    check(peer_write(&t, 0x21, 0x01) == 14 && gives(&t, 0x21, "00"), "P10 0x21=01 gives 14");
-    check(gives(&t, 0x09, "04"), "P10 the refused write cleared nothing");
+    check(peer_write(&t, 0x21, 0x01) == 0 && gives(&t, 0x21, "01"), "P10 0x21=01 gives 0");
+    check(gives(&t, 0x09, "000008"), "P10 the accepted write cleared all but the sign");
     check(peer_write(&t, 0x21, 0x07) == 0 && gives(&t, 0x21, "07"), "P10 07 gives 0");
 }
 
@@ -328,7 +346,7 @@ static const char table[] =
     "3C:00/FF 3D:FF/00 3E:00/C3";
 
 /* What the twin lacks, in the order of the request: the bits that are refused where one of them is
-   1, the bits that are not, and the number. 0x21 is apart, as it has codes and not bits. */
+   1, the bits that are not, and the number. */
 static const struct {
     unsigned address;
     const char *refused, *accepted;
@@ -370,8 +388,6 @@ static unsigned expected_answer(unsigned address, unsigned byte)
         return nibble_among(byte, "358C") ? 0 : 2;
     if (address == 0x3E)
         return byte < 0xC0 ? 0 : 2;
-    if (address == 0x21)
-        return nibble_among(byte, "087F") ? 0 : 14;
     for (int i = 0; i < LACKING; i++)
         if (lacking[i].address == address && byte & bits(lacking[i].refused))
             return lacking[i].number;
@@ -434,7 +450,7 @@ static void write_gives(unsigned address, unsigned byte, unsigned wanted)
     check(peer_write(&t, (uint8_t)address, (uint8_t)byte) == wanted, "%02X=%02X is %u", address,
           byte, wanted);
     if (wanted != 0)
-        check(memcmp(&t, &before, sizeof t) == 0, "%02X=%02X changes nothing", address, byte);
+        check(same(&t, &before), "%02X=%02X changes nothing", address, byte);
 }
 
 static void bits_lacking(void)
@@ -462,23 +478,24 @@ static void power_modes_at_once(void)
     write_gives(0x11, 0xE0, 12);
 }
 
-/* Bit 7 is a command, bits 6:4 are ignored: neither changes which nibbles are refused. */
-static void latch_times(void)
+/* Bit 7 is a command, bits 6:4 are ignored: no byte is refused, and the nibble alone is stored. */
+static void latch_codes(void)
 {
-    for (unsigned nibble = 0; nibble < 16; nibble++) {
-        unsigned wanted = nibble_among(nibble, "087F") ? 0 : 14;
+    for (unsigned byte = 0; byte < 256; byte++) {
+        struct peer t = busy();
+        uint8_t got;
 
-        write_gives(0x21, nibble, wanted);
-        for (unsigned bit = 0x10; bit < 0x100; bit <<= 1)
-            write_gives(0x21, bit | nibble, wanted);
-        write_gives(0x21, 0xF0 | nibble, wanted);
+        check(peer_write(&t, 0x21, (uint8_t)byte) == 0 && gives(&t, 0x09, "00E008"),
+              "21=%02X is 0 and clears", byte);
+        check(peer_read(&t, 0x21, &got, 1) == 0 && got == (byte & 0x0F), "21=%02X reads %X", byte,
+              byte & 0x0F);
     }
 }
 
 static void every_write(void)
 {
     struct peer before = busy(), t = before;
-    int given_3 = 0, others = 0, changes = 0;
+    int gone = 0, others = 0, changes = 0;
 
     check(gives(&t, 0x09, "04E00900FF81"), "the busy twin has each status and overrun set");
     for (unsigned address = 0; address < 0x100; address++)
@@ -487,11 +504,11 @@ static void every_write(void)
 
             t = before;
             answer = peer_write(&t, (uint8_t)address, (uint8_t)byte);
-            given_3 += answer == 3;
+            gone += answer == 3 || answer == 14;
             others += answer != expected_answer(address, byte);
-            changes += answer != 0 && memcmp(&t, &before, sizeof t) != 0;
+            changes += answer != 0 && !same(&t, &before);
         }
-    check(given_3 == 0, "%d writes are answered 3", given_3);
+    check(gone == 0, "%d writes are answered 3 or 14", gone);
     check(others == 0, "%d writes are answered other than the rules say", others);
     check(changes == 0, "%d refused writes change the twin", changes);
 }
@@ -500,7 +517,7 @@ static void refusals_by_register(void)
 {
     bits_lacking();
     power_modes_at_once();
-    latch_times();
+    latch_codes();
     every_write();
 }
 
@@ -525,7 +542,7 @@ static void refusals_change_nothing(void)
     check(peer_write(&t, 0x3E, 0xC0) == 2, "3E=C0 is 2");
     check(peer_sample(&t, 0, 2048, 0, 0) == 4, "y 2048 is 4");
     check(peer_sample(&t, 0, 0, -2049, 0) == 4, "z -2049 is 4");
-    check(memcmp(&t, &before, sizeof t) == 0, "refusals leave the twin as it was");
+    check(same(&t, &before), "refusals leave the twin as it was");
     check(memcmp(buffer, untouched, sizeof buffer) == 0, "refusals leave the buffer as it was");
     check(peer_read(&t, 0x00, buffer, 63) == 0, "length 63 at 0x00 is 0");
     check(peer_read(&t, 0x3F, buffer, 192) == 0, "length 192 at 0x3F is 0");
@@ -646,7 +663,7 @@ static void soft_reset(void)
     check(reads(&t, 0x02, 1) == 0, "read that locks");
     check(peer_write(&t, 0x14, 0xB5) == 0 && gives(&t, 0x0E, "81"), "B5 is ignored");
     check(peer_write(&t, 0x14, 0xB6) == 0, "B6 is 0");
-    check(memcmp(&t, &wanted, sizeof t) == 0, "all as at power-up but 0x3B and 0x3C");
+    check(same(&t, &wanted), "all as at power-up but 0x3B and 0x3C");
 }
 
 static void data_and_full(void)
@@ -698,6 +715,424 @@ static void pins(void)
     peer_write(&t, 0x19, 0xFB);
     peer_write(&t, 0x1B, 0x04);
     check(pins_are(&t, PEER_RELEASED, PEER_HIGH), "any-motion on INT2");
+}
+
+/* ---- latch times ---- */
+
+enum { MS = 1000, S = 1000000 }; /* microseconds */
+
+static const struct {
+    unsigned code;
+    uint32_t time;
+} holds[] = {
+    {0x1, 250 * MS}, {0x2, 500 * MS}, {0x3, 1 * S},  {0x4, 2 * S},   {0x5, 4 * S},   {0x6, 8 * S},
+    {0x9, 250},      {0xA, 500},      {0xB, 1 * MS}, {0xC, 12500},   {0xD, 25 * MS}, {0xE, 50 * MS},
+};
+
+enum { HOLDS = sizeof holds / sizeof *holds };
+
+static int at; /* y of the sample before; the twins below are made one after the other */
+
+static void over(struct peer *t, int points)
+{
+    while (points-- > 0)
+        peer_sample(t, 0, at -= 5, 0, 0);
+}
+
+static void calm(struct peer *t, int points)
+{
+    while (points-- > 0)
+        peer_sample(t, 0, at, 0, 0);
+}
+
+/* All axes, over above 4, N points and a code in 0x21; a sample of zeros came. */
+static struct peer armed(unsigned code, int n)
+{
+    struct peer t = fresh(0x16, 0x07);
+
+    peer_write(&t, 0x28, 0x01);
+    peer_write(&t, 0x27, (uint8_t)(n - 1));
+    peer_write(&t, 0x21, (uint8_t)code);
+    at = 0;
+    calm(&t, 1);
+    return t;
+}
+
+/* The same with the status just set, by y and downwards. */
+static struct peer held(unsigned code, int n)
+{
+    struct peer t = armed(code, n);
+
+    over(&t, n);
+    return t;
+}
+
+static bool stands(struct peer *t)
+{
+    return gives(t, 0x09, "04") && gives(t, 0x0B, "0A");
+}
+
+/* The sign stays when status and mark go. */
+static bool cleared(struct peer *t)
+{
+    return gives(t, 0x09, "00") && gives(t, 0x0B, "08");
+}
+
+static bool stands_after(struct peer *t, uint32_t microseconds)
+{
+    return peer_clock(t, microseconds) == 0 && stands(t);
+}
+
+static bool cleared_after(struct peer *t, uint32_t microseconds)
+{
+    return peer_clock(t, microseconds) == 0 && cleared(t);
+}
+
+/* So many clocks of part leave the status; one of last leaves it too, or clears it. */
+static void clocks(unsigned code, uint32_t times, uint32_t part, uint32_t last, bool leaves)
+{
+    struct peer t = held(code, 1);
+    bool before;
+
+    for (uint32_t i = 0; i < times; i++)
+        peer_clock(&t, part);
+    before = stands(&t);
+    check(before && (leaves ? stands_after(&t, last) : cleared_after(&t, last)),
+          "21=%02X, %u clocks of %u leave it, one of %u %s it", code, times, part, last,
+          leaves ? "leaves" : "clears");
+}
+
+static void one_clock(unsigned code, uint32_t time)
+{
+    clocks(code, 0, 0, 0, true);
+    clocks(code, 0, 0, 1, true);
+    clocks(code, 0, 0, time - 1, true);
+    clocks(code, 0, 0, time, false);
+    clocks(code, 0, 0, time + 1, false);
+    clocks(code, 0, 0, UINT32_MAX, false);
+}
+
+/* Each time is 250 parts of whole microseconds. */
+static void many_clocks(unsigned code, uint32_t time)
+{
+    clocks(code, 1, 1, time - 2, true);
+    clocks(code, 1, 1, time - 1, false);
+    clocks(code, 1, 1, time, false);
+    clocks(code, 1, time - 1, 0, true);
+    clocks(code, 1, time - 1, 1, false);
+    clocks(code, 1, time - 1, 2, false);
+    clocks(code, 1, time - 1, UINT32_MAX, false); /* the sum passes 32 bits */
+    clocks(code, 249, time / 250, time / 250 - 1, true);
+    clocks(code, 249, time / 250, time / 250, false);
+    clocks(code, 249, time / 250, time / 250 + 1, false);
+    clocks(code, 1000, 0, time - 1, true);
+    clocks(code, 1000, 0, time, false);
+    clocks(code, time - 2, 1, 1, true);
+    clocks(code, time - 1, 1, 1, false);
+}
+
+/* What stands beside the code in 0x21 changes no time. */
+static void beside_the_code(unsigned code, uint32_t time)
+{
+    clocks(0x80 | code, 0, 0, time - 1, true);
+    clocks(0x80 | code, 0, 0, time, false);
+    clocks(0x70 | code, 1, time - 1, 0, true);
+    clocks(0x70 | code, 1, time - 1, 1, false);
+}
+
+/* N calm points and more, at the start and the end of the time: neither sooner nor later. */
+static void calm_points(unsigned code, uint32_t time)
+{
+    for (int n = 1; n <= 4; n++) {
+        struct peer t = held(code, n);
+
+        calm(&t, 10);
+        check(stands(&t), "21=%02X, N %d: calm points leave it", code, n);
+        check(stands_after(&t, time - 1), "21=%02X, N %d: calm, then time - 1", code, n);
+        calm(&t, 10);
+        check(stands(&t), "21=%02X, N %d: calm points after time - 1 leave it", code, n);
+        check(cleared_after(&t, 1), "21=%02X, N %d: calm, then time", code, n);
+    }
+}
+
+/* N over points and more: the time is that since the setting, and the marks are those of it. */
+static void over_points(unsigned code, uint32_t time)
+{
+    for (int n = 1; n <= 4; n++) {
+        struct peer t = held(code, n);
+
+        over(&t, 10);
+        check(stands_after(&t, time - 1), "21=%02X, N %d: over, then time - 1", code, n);
+        peer_sample(&t, 100, at, 100, 0);
+        check(stands(&t), "21=%02X, N %d: another mark is not made", code, n);
+        peer_sample(&t, 0, at, 0, 0);
+        over(&t, 10);
+        check(cleared_after(&t, 1), "21=%02X, N %d: over, then time", code, n);
+    }
+}
+
+/* Over points while the status stood don't count behind it: N fresh ones set it, for the whole
+   time. */
+static void runs_over_the_end(unsigned code, uint32_t time)
+{
+    for (int n = 1; n <= 4; n++) {
+        struct peer t = held(code, n);
+
+        calm(&t, 1);
+        over(&t, n - 1);
+        check(cleared_after(&t, time), "21=%02X, N %d: the end", code, n);
+        over(&t, n - 1);
+        check(cleared(&t), "21=%02X, N %d: too few over points behind the end", code, n);
+        check(cleared_after(&t, time), "21=%02X, N %d: a clock for no status", code, n);
+        over(&t, 1);
+        check(stands(&t), "21=%02X, N %d: N over points behind the end", code, n);
+        check(stands_after(&t, time - 1), "21=%02X, N %d: the second time - 1", code, n);
+        over(&t, 10);
+        check(cleared_after(&t, 1), "21=%02X, N %d: the second time", code, n);
+        over(&t, n - 1);
+        check(cleared(&t), "21=%02X, N %d: a long run is lost too", code, n);
+    }
+}
+
+/* A clock that ends nothing leaves the runs, and counts for no time. */
+static void before_the_setting(unsigned code, uint32_t time)
+{
+    struct peer t = armed(code, 3), before;
+
+    over(&t, 2);
+    before = t;
+    check(peer_clock(&t, UINT32_MAX) == 0 && same(&t, &before), "21=%02X, no status", code);
+    check(peer_clock(&t, time - 1) == 0 && same(&t, &before), "21=%02X, none yet", code);
+    over(&t, 1);
+    check(stands(&t), "21=%02X: the third over point of three", code);
+    check(stands_after(&t, time - 1) && cleared_after(&t, 1), "21=%02X: time since then", code);
+    before = t;
+    check(peer_clock(&t, time) == 0 && same(&t, &before), "21=%02X, none any more", code);
+}
+
+/* Each of these writes clears at once; the next setting has the whole time. */
+static void restarts(unsigned code, uint32_t time)
+{
+    const uint8_t writes[][2] = {{0x0F, 0x03},
+                                 {0x0F, 0xFC},
+                                 {0x16, 0x07},
+                                 {0x21, (uint8_t)code},
+                                 {0x21, (uint8_t)(0x80 | code)},
+                                 {0x27, 0x01},
+                                 {0x28, 0x01}};
+
+    for (size_t i = 0; i < sizeof writes / sizeof *writes; i++) {
+        unsigned address = writes[i][0];
+        struct peer t = held(code, 2);
+
+        check(stands_after(&t, time - 1), "21=%02X: a microsecond is left", code);
+        check(peer_write(&t, writes[i][0], writes[i][1]) == 0 && cleared(&t),
+              "21=%02X: %02X clears", code, address);
+        if (address == 0x0F)
+            calm(&t, 1); /* the first sample, which gives no point */
+        over(&t, 1);
+        check(cleared_after(&t, time), "21=%02X: %02X clears the runs", code, address);
+        over(&t, 1); /* the second, whatever clock came between */
+        check(stands_after(&t, 1), "21=%02X: %02X clears what was left", code, address);
+        check(stands_after(&t, time - 2), "21=%02X: the whole time after %02X", code, address);
+        check(cleared_after(&t, 1), "21=%02X: its end after %02X", code, address);
+    }
+}
+
+static void reset_in_between(unsigned code, uint32_t time)
+{
+    struct peer t = held(code, 1), wanted;
+
+    peer_power_up(&wanted);
+    check(stands_after(&t, time - 1), "21=%02X: before a soft reset", code);
+    check(peer_write(&t, 0x14, 0xB6) == 0 && same(&t, &wanted), "21=%02X: soft reset", code);
+}
+
+/* Refused writes, and accepted ones to other registers: they neither clear nor extend. */
+static void no_restarts(unsigned code, uint32_t time)
+{
+    static const uint8_t writes[][2] = {
+        {0x0F, 0x04}, {0x16, 0x17}, {0x3E, 0xC0}, {0x40, 0x00}, {0x11, 0x80}, {0x38, 0x01},
+        {0x13, 0x40}, {0x14, 0xB5}, {0x17, 0x70}, {0x18, 0x08}, {0x19, 0x04}, {0x1A, 0xFF},
+        {0x20, 0x00}, {0x22, 0x00}, {0x26, 0x00}, {0x29, 0x00}, {0x30, 0x01}, {0x3E, 0x80}};
+    struct peer t;
+
+    for (size_t i = 0; i < sizeof writes / sizeof *writes; i++) {
+        t = held(code, 1);
+        peer_clock(&t, time - 1);
+        peer_write(&t, writes[i][0], writes[i][1]);
+        check(stands(&t) && cleared_after(&t, 1), "21=%02X: %02X=%02X is no restart", code,
+              writes[i][0], writes[i][1]);
+    }
+    t = held(code, 1);
+    peer_clock(&t, time - 1);
+    check(sample_x(&t, 2048) == 4 && peer_cycle_start(&t) == 0 && reads(&t, 0x3F, 6) == 0 &&
+              stands(&t) && cleared_after(&t, 1),
+          "21=%02X: a refused sample, a cycle start and a readout", code);
+}
+
+/* What can be read of a twin: the registers and the frames. */
+static void show(const struct peer *t, uint8_t shown[63 + 192])
+{
+    struct peer copy = *t;
+
+    peer_read(&copy, 0x00, shown, 63);
+    peer_read(&copy, 0x3F, shown + 63, 192);
+}
+
+/* The end of the time moves 0x09 and 0x0B and nothing else; nor is the sample before forgotten. */
+static void nothing_else(unsigned code, uint32_t time)
+{
+    struct peer t = busy(), before;
+    uint8_t shown[63 + 192], wanted[63 + 192];
+
+    peer_write(&t, 0x21, (uint8_t)code);
+    peer_sample(&t, 2047, 2047, 5, 3);
+    peer_sample(&t, -2048, 2047, 5, 3);
+    reads(&t, 0x02, 1);
+    before = t;
+    show(&t, wanted);
+    check(wanted[0x09] == 0x04 && wanted[0x0A] == 0xE0 && wanted[0x0B] == 0x01, "set up");
+    check(peer_clock(&t, 0) == 0 && same(&t, &before), "21=%02X: a clock of 0", code);
+    check(peer_clock(&t, time - 1) == 0, "21=%02X: a clock before the end", code);
+    show(&t, shown);
+    check(memcmp(shown, wanted, sizeof shown) == 0, "21=%02X: nothing to see of it", code);
+    check(peer_clock(&t, 1) == 0, "21=%02X: a clock to the end", code);
+    show(&t, shown);
+    wanted[0x09] = wanted[0x0B] = 0x00;
+    check(memcmp(shown, wanted, sizeof shown) == 0, "21=%02X: nothing else moves", code);
+    check(gives(&t, 0x03, "80"), "21=%02X: the lock holds", code);
+    peer_sample(&t, -2048, 2047, 5, 3);
+    check(gives(&t, 0x09, "00"), "21=%02X: no slope to the sample before", code);
+    peer_sample(&t, -2048, 1900, 5, 3);
+    check(gives(&t, 0x09, "04E00A"), "21=%02X: a slope to it", code);
+}
+
+static void held_pins(unsigned code, uint32_t time)
+{
+    struct peer t = held(code, 1);
+
+    peer_write(&t, 0x19, 0x04);
+    check(pins_are(&t, PEER_HIGH, PEER_LOW), "21=%02X: INT1 is active", code);
+    peer_clock(&t, time - 1);
+    peer_write(&t, 0x1B, 0x04);
+    check(pins_are(&t, PEER_HIGH, PEER_HIGH), "21=%02X: both are active at the last", code);
+    peer_clock(&t, 1);
+    check(pins_are(&t, PEER_LOW, PEER_LOW), "21=%02X: neither is behind the time", code);
+}
+
+/* Non-latched and latched: no clock does anything, and calm points do what they did. */
+static void codes_without_a_time(void)
+{
+    static const uint8_t codes[] = {0x0, 0x8, 0x7, 0xF};
+    static const uint32_t counts[] = {0, 1, 250, 250 * MS, 8 * S, UINT32_MAX};
+
+    for (size_t i = 0; i < sizeof codes; i++) {
+        struct peer t = held(codes[i], 2), before = t;
+
+        for (size_t k = 0; k < sizeof counts / sizeof *counts; k++)
+            check(peer_clock(&t, counts[k]) == 0 && same(&t, &before), "21=%02X, clock %u",
+                  codes[i], counts[k]);
+        calm(&t, 1);
+        peer_clock(&t, UINT32_MAX);
+        check(stands(&t), "21=%02X: one calm point of two", codes[i]);
+        calm(&t, 1);
+        check(codes[i] & 7 ? stands(&t) : cleared(&t), "21=%02X: two of two", codes[i]);
+    }
+}
+
+/* The code in 0x21 at the setting decides, and a write of another one is a restart. */
+static void another_code(void)
+{
+    struct peer t = held(0x6, 1);
+
+    peer_clock(&t, 8 * S - 1);
+    check(peer_write(&t, 0x21, 0x9) == 0 && cleared(&t), "8 s to 250 us clears");
+    over(&t, 1);
+    check(stands_after(&t, 249) && cleared_after(&t, 1), "250 us after 8 s");
+    over(&t, 1);
+    check(stands_after(&t, 249) && peer_write(&t, 0x21, 0x6) == 0 && cleared(&t),
+          "250 us to 8 s clears");
+    over(&t, 1);
+    check(stands_after(&t, 8 * S - 1) && cleared_after(&t, 1), "8 s after 250 us");
+    over(&t, 1);
+    check(peer_write(&t, 0x21, 0x7) == 0 && cleared(&t), "8 s to latched clears");
+    over(&t, 1);
+    check(stands_after(&t, UINT32_MAX) && stands_after(&t, UINT32_MAX), "latched after 8 s");
+}
+
+static bool status_set(struct peer *t)
+{
+    uint8_t byte;
+
+    peer_read(t, 0x09, &byte, 1);
+    return byte & 0x04;
+}
+
+/* The same time in one clock and in up to four that sum to it. */
+static void clock_both(struct peer *whole, struct peer *parts, uint32_t time)
+{
+    peer_clock(whole, time);
+    for (unsigned i = draw(4); i > 0; i--) {
+        uint32_t part = draw(2) ? draw(3) : time / (1 + draw(4));
+
+        part = part < time ? part : time;
+        peer_clock(parts, part);
+        time -= part;
+    }
+    peer_clock(parts, time);
+}
+
+/* Samples, restarts and clocks at random on two twins. One gets a clock at once and the other in
+   parts: they stay the same, and the status goes exactly when the time since its setting, summed up
+   in 64 bits, reaches that of the code. */
+static void sums_at_random(unsigned code, uint32_t time)
+{
+    struct peer whole = armed(code, 2), parts = whole;
+    uint64_t now = 0, set_at = 0;
+    int apart = 0, ends = 0;
+
+    for (int i = 0; i < 5000; i++) {
+        bool before = status_set(&whole), ended = false;
+        unsigned choice = draw(16);
+
+        if (choice < 8) {
+            int y = (int)draw(2) * 5;
+
+            peer_sample(&whole, 0, y, 0, 0);
+            peer_sample(&parts, 0, y, 0, 0);
+        } else if (choice < 15) {
+            uint32_t microseconds = draw(20) ? time / 4 + draw(3) - 1 : UINT32_MAX;
+
+            clock_both(&whole, &parts, microseconds);
+            now += microseconds;
+            ended = before && now - set_at >= time;
+            ends += ended;
+            apart += status_set(&whole) != (before && !ended);
+        } else if (draw(8) == 0) {
+            peer_write(&whole, 0x28, 0x01);
+            peer_write(&parts, 0x28, 0x01);
+        }
+        if (!before && status_set(&whole))
+            set_at = now;
+        apart += !same(&whole, &parts);
+    }
+    check(apart == 0, "21=%02X: %d events at random part the twins or the time", code, apart);
+    check(ends > 100, "21=%02X: %d ends at random", code, ends);
+}
+
+static void latch_times(void)
+{
+    static void (*const test[])(unsigned code, uint32_t time) = {
+        one_clock,         many_clocks,        beside_the_code, calm_points,      over_points,
+        runs_over_the_end, before_the_setting, restarts,        reset_in_between, no_restarts,
+        nothing_else,      held_pins,          sums_at_random};
+
+    for (size_t i = 0; i < sizeof test / sizeof *test; i++)
+        for (int k = 0; k < HOLDS; k++)
+            test[i](holds[k].code, holds[k].time);
+    codes_without_a_time();
+    another_code();
 }
 
 /* ---- programs ---- */
@@ -798,13 +1233,17 @@ static void stops(void)
     replay("01 00 08 01 00 00 00 00 00 00 00", "1 8\npins 0 0\n");
     replay("01 00 01 02", "1 8\npins 0 0\n");
     replay("01 00 03 01 20 0E 00 00", "1 0\n2 8\npins Z Z\n");
+    replay("01 00 01 06", "1 8\npins 0 0\n");
+    replay("01 00 05 06 00 00 00 00", "1 8\npins 0 0\n");
+    replay("01 00 05 00 00 00 00 00", "1 8\npins 0 0\n");
+    replay("01 00 05 06 00 00 00", "1 9\npins 0 0\n");
 }
 
 static void refusals_go_on(void)
 {
     replay("01 00 03 01 40 00 00 03 01 0F 04 00 03 01 21 01 00 08 03 08 00 00 00 00 00 00"
            "00 03 02 3F 00 00 03 02 3F C1 00 03 02 3E 02 00 03 02 40 00 00 01 04 00 03 02 00 01",
-           "1 1\n2 2\n3 14\n4 4\n5 5\n6 5\n7 6\n8 1\n9 0\n10 0 FA\npins 0 0\n");
+           "1 1\n2 2\n3 0\n4 4\n5 5\n6 5\n7 6\n8 1\n9 0\n10 0 FA\npins 0 0\n");
     replay("01 00 08 03 F8 00 07 FF FF FF 80 00 03 02 02 07",
            "1 0\n2 0 0180F17FF1FF80\npins 0 0\n");
     replay("01 00 08 03 F7 FF 00 00 00 00 00 00 08 03 80 00 00 00 00 00 00 00 03 02 00 00",
@@ -812,7 +1251,7 @@ static void refusals_go_on(void)
     replay("01 00 03 01 16 80 00 03 01 17 01 00 03 01 18 0C 00 03 01 11 C0 00 03 01 32 05"
            "00 03 01 33 02 00 03 01 36 80 00 03 01 3A 01 00 03 01 21 89 00 03 02 16 03"
            "00 03 01 18 08 00 03 01 21 88 00 03 02 18 01 00 03 02 21 01",
-           "1 11\n2 11\n3 11\n4 12\n5 13\n6 13\n7 13\n8 13\n9 14\n10 0 000000\n11 0\n12 0\n"
+           "1 11\n2 11\n3 11\n4 12\n5 13\n6 13\n7 13\n8 13\n9 0\n10 0 000000\n11 0\n12 0\n"
            "13 0 08\n14 0 08\npins 0 0\n");
 }
 
@@ -827,6 +1266,55 @@ static void watermark_log(void)
     replay(THREE_AT_LEVEL_2, THEIR_ANSWERS "pins 1 0\n");
     replay(THREE_AT_LEVEL_2 "00 03 02 3F 07 00 03 02 0A 01",
            THEIR_ANSWERS "11 0 01000100010001\n12 0 00\npins 0 0\n");
+}
+
+/* A record of this kind and length and nothing more, cut to so many bytes of its body. */
+static void one_record(uint8_t kind, size_t length, size_t whole, const char *wanted)
+{
+    uint8_t log[16] = {1, 0, (uint8_t)length, kind};
+
+    write_log(log, 3 + whole);
+    check(replay_gives(false, wanted), "kind %d of length %zu with %zu bytes: %s", kind, length,
+          whole, wanted);
+}
+
+/* Kind 5 has length 5; a length above 8 is refused before the cut, any other after it. */
+static void clock_lengths(void)
+{
+    static const char done[] = "1 0\npins 0 0\n", wrong[] = "1 8\npins 0 0\n",
+                      cut[] = "1 9\npins 0 0\n";
+
+    for (size_t length = 1; length <= 9; length++) {
+        one_record(CLOCK, length, length, length == 5 ? done : wrong);
+        one_record(CLOCK, length, length - 1, length > 8 ? wrong : cut);
+        one_record(CLOCK + 1, length, length, wrong);
+        one_record(CLOCK + 1, length, length - 1, length > 8 ? wrong : cut);
+    }
+    for (size_t whole = 0; whole < 5; whole++)
+        one_record(CLOCK, 5, whole, cut);
+    replay("01 00 05 05 FF FF FF FF 00", "1 0\n2 9\npins 0 0\n");
+    replay("01 00 05 05 FF FF FF FF 00 05 05", "1 0\n2 9\npins 0 0\n");
+    replay("01 00 05 05 00 00 00 00 00 01 04 00 04 05 00 00 00", "1 0\n2 0\n3 8\npins 0 0\n");
+}
+
+#define HELD_FOR_8_S                                                                               \
+    "01 00 03 01 16 01 00 03 01 19 04 00 03 01 21 06 00 08 03 00 00 00 00 00 00 00"                \
+    "00 08 03 FF 00 00 00 00 00 00"
+#define MARKS "00 03 02 09 03"
+#define FIVE_DONE "1 0\n2 0\n3 0\n4 0\n5 0\n"
+
+/* 8 s are 007A1200, and each byte of a count has its place. */
+static void clock_log(void)
+{
+    replay(HELD_FOR_8_S "00 05 05 00 7A 11 FF" MARKS, FIVE_DONE "6 0\n7 0 040009\npins 1 0\n");
+    replay(HELD_FOR_8_S "00 05 05 00 7A 12 00" MARKS, FIVE_DONE "6 0\n7 0 000008\npins 0 0\n");
+    replay(HELD_FOR_8_S "00 05 05 00 7A 12 01" MARKS, FIVE_DONE "6 0\n7 0 000008\npins 0 0\n");
+    replay(HELD_FOR_8_S "00 05 05 01 00 00 00" MARKS, FIVE_DONE "6 0\n7 0 000008\npins 0 0\n");
+    replay(HELD_FOR_8_S "00 05 05 00 00 00 FF" MARKS, FIVE_DONE "6 0\n7 0 040009\npins 1 0\n");
+    replay(HELD_FOR_8_S "00 05 05 00 00 FF FF" MARKS, FIVE_DONE "6 0\n7 0 040009\npins 1 0\n");
+    replay(HELD_FOR_8_S "00 05 05 00 00 00 00" MARKS, FIVE_DONE "6 0\n7 0 040009\npins 1 0\n");
+    replay(HELD_FOR_8_S "00 05 05 00 7A 11 FF 00 05 05 00 00 00 00" MARKS "00 05 05 00 00 00 01"
+           MARKS, FIVE_DONE "6 0\n7 0\n8 0 040009\n9 0\n10 0 000008\npins 0 0\n");
 }
 
 /* Logs of cycle starts that end around the size of a block; the last line but one tells. */
@@ -856,18 +1344,12 @@ static void replays(void)
     stops();
     refusals_go_on();
     watermark_log();
+    clock_lengths();
+    clock_log();
     blocks();
 }
 
 /* ---- account ---- */
-
-static unsigned draw(unsigned limit)
-{
-    static uint32_t state = 1;
-
-    state = state * 1664525u + 1013904223u;
-    return (state >> 16) % limit;
-}
 
 /* Mostly samples, and what drains or empties the FIFO. */
 static void draw_body(uint8_t body[8])
@@ -875,7 +1357,7 @@ static void draw_body(uint8_t body[8])
     static const uint8_t written[] = {0x3E, 0x3E, 0x0F, 0x14};
 
     memset(body, 0, 8);
-    body[0] = draw(8) ? SAMPLE : (uint8_t)(1 + draw(4));
+    body[0] = draw(8) ? SAMPLE : (uint8_t)(1 + draw(5));
     if (body[0] == SAMPLE)
         body[1] = draw(16) ? 0 : 0x70; /* refused */
     else
@@ -1038,6 +1520,29 @@ static void frames(void)
                      "0 held after\n");
 }
 
+/* A clock is a record like any other: it takes, loses and clears nothing and sets no range. */
+static void clocks_in_between(void)
+{
+    begin_log("01 00 05 05 00 00 00 01 00 03 01 0F 04 00 05 05 FF FF FF FF"
+              "00 08 03 00 00 00 00 00 00 00 00 05 05 00 00 00 00 00 03 02 3F 06"
+              "00 05 05 3F 3F 3F 3F 00 05 05 0F 0F 0F 0F");
+    answers("", "1 2 2g 0 0 0 0 0 1 refused\n"
+                "3 6 2g? 1 1 0 0 0 0 readout\n"
+                "7 8 2g? 0 0 0 0 0 0 rest\n"
+                "end 8\n");
+    answers("samples", "1 2 2g 0 0 0 0 0 1 refused\n"
+                       "sample 4 0 0 0 0\n"
+                       "3 6 2g? 1 1 0 0 0 0 readout\n"
+                       "7 8 2g? 0 0 0 0 0 0 rest\n"
+                       "end 8\n");
+    answers("0 6", "from record 1: 2g\n"
+                   "from record 3: 2g?, because record 2 wrote 04 to 0F and was refused\n"
+                   "records 1 to 6: 1 accepted, 1 taken, 0 lost, 0 cleared, 0 held before, "
+                   "0 held after\n");
+    begin_log("01 00 05 05 00 00 00 01 00 04 05 00 00 00");
+    answers("", "1 1 2g 0 0 0 0 0 0 rest\nstop 2 8\n");
+}
+
 static void damaged(void)
 {
     begin_log("");
@@ -1106,11 +1611,13 @@ int main(int count, char **argument)
     soft_reset();
     data_and_full();
     pins();
+    latch_times();
     replays();
     account_and_twin();
     spring();
     doubts();
     frames();
+    clocks_in_between();
     damaged();
     wrong_use();
     failing_files(replay_command);

@@ -118,7 +118,7 @@ static void put_wrong_length(struct log *l)
 
 static void put_unknown_kind(struct log *l)
 {
-    int kind = PICK(l, 0, 5, 6, 7, 128, 129, 130, 131, 132, 255);
+    int kind = PICK(l, 0, 6, 6, 7, 128, 129, 130, 131, 132, 133, 255);
     int length = PICK(l, 1, 3, 8, 2, 4, 5, 6, 7);
 
     if (one_in(l, 4)) {
@@ -132,10 +132,12 @@ static void put_unknown_kind(struct log *l)
 
 static void put_unfit_kind(struct log *l)
 {
-    static const int fit[] = {0, 3, 3, 8, 1};
-    int kind = 1 + below(l, 4);
+    static const int fit[] = {0, 3, 3, 8, 1, 5};
+    int kind = PICK(l, 1, 2, 3, 4, 5, 5);
     int length = PICK(l, 1, 1, 3, 3, 8, 8, 2, 4, 5, 6, 7);
 
+    if (one_in(l, 2))
+        length = one_in(l, 2) ? fit[kind] - 1 : fit[kind] + 1; /* 0 and 9 fit no kind at all */
     if (length == fit[kind])
         length = length % 8 + 1;
     put_length(l, length);
@@ -209,6 +211,15 @@ static void put_cycle_start(struct log *l)
     put_record(l, (uint8_t[]){4}, 1);
 }
 
+static void put_clock(struct log *l, uint32_t microseconds)
+{
+    uint8_t body[5] = {5};
+
+    for (int i = 0; i < 4; i++)
+        body[1 + i] = (uint8_t)(microseconds >> (24 - 8 * i));
+    put_record(l, body, 5);
+}
+
 /* ---- pieces of scenes ---- */
 
 static void put_any_sample(struct log *l)
@@ -260,6 +271,14 @@ static void look(struct log *l)
         put_read(l, 0x09, 6);
 }
 
+static uint32_t any_clock(struct log *l)
+{
+    uint32_t bits = (uint32_t)draw(l);
+    int shift = below(l, 32);
+
+    return bits >> shift; /* short and long ones alike */
+}
+
 static int any_fifo_mode(struct log *l)
 {
     int mode = below(l, 3);
@@ -282,7 +301,9 @@ static void set_watermark(struct log *l)
 
 static void disturb_fifo(struct log *l, int mode)
 {
-    switch (below(l, 6)) {
+    uint32_t microseconds = any_clock(l);
+
+    switch (below(l, 7)) {
     case 0:
         put_write(l, 0x3E, 0xC0 | mode); /* refused, and must empty nothing */
         break;
@@ -294,6 +315,9 @@ static void disturb_fifo(struct log *l, int mode)
         break;
     case 3:
         put_write(l, 0x30, mode); /* empties nothing */
+        break;
+    case 4:
+        put_clock(l, microseconds);
         break;
     default:
         put_any_sample(l);
@@ -449,7 +473,7 @@ static void lack_scene(struct log *l)
 {
     static const struct {
         int address, refused;
-    } row[] = {{0x11, 0xE0}, {0x16, 0xF0}, {0x17, 0x0F}, {0x18, 0x07}, {0x21, 0x07}, {0x32, 0x03},
+    } row[] = {{0x11, 0xE0}, {0x16, 0xF0}, {0x17, 0x0F}, {0x18, 0x07}, {0x32, 0x03},
                {0x33, 0x0B}, {0x36, 0xE7}, {0x38, 0xFF}, {0x39, 0xFF}, {0x3A, 0xFF}};
     int turns = 3 + below(l, 6);
 
@@ -460,10 +484,7 @@ static void lack_scene(struct log *l)
 
         while (writes-- > 0) {
             int byte = byte_at_edge(l, row[chosen].refused);
-            int code = below(l, 16);
 
-            if (address == 0x21 && one_in(l, 2)) /* refuses codes, not bits */
-                byte = (byte & 0xF0) | code;
             put_write(l, address, byte);
             if (!one_in(l, 4))
                 put_read(l, address, 1);
@@ -673,7 +694,51 @@ struct setup {
     int at[AXES];
 };
 
-static void set_motion(struct log *l, struct setup *s)
+/* The microseconds for which a byte in 0x21 holds a status; 0 for the codes without a time. */
+static uint32_t hold_time(int latch)
+{
+    static const uint32_t time[] = {0, 250000, 500000, 1000000, 2000000, 4000000, 8000000, 0,
+                                    0, 250,    500,    1000,    12500,   25000,   50000,   0};
+
+    return time[latch & 0x0F];
+}
+
+/* A code for 0x21 with what may stand beside it: bit 7, a command, and bits that are ignored. */
+static int latch_byte(struct log *l, int code)
+{
+    return PICK(l, 0x00, 0x00, 0x80, 0x70, 0xF0) | code;
+}
+
+static int any_latch(struct log *l)
+{
+    int code = one_in(l, 2) ? PICK(l, 0x0, 0x0, 0x8, 0x7, 0xF) : below(l, 16);
+
+    return latch_byte(l, code);
+}
+
+/* A count just below, at or just above a time, or now and then far from it. For the time 0 just
+   below is the largest count. */
+static uint32_t clock_near(struct log *l, uint32_t time)
+{
+    uint32_t step = (uint32_t)below(l, 3);
+    uint32_t far = any_clock(l);
+    int bit = 8 + below(l, 24);
+
+    switch (below(l, 12)) {
+    case 0:
+        return 0;
+    case 1:
+        return UINT32_MAX;
+    case 2:
+        return far;
+    case 3:
+        return (time - 1) | UINT32_C(1) << bit; /* its lower bytes alone would be below */
+    default:
+        return time + step - 1;
+    }
+}
+
+static void set_motion(struct log *l, struct setup *s, int latch)
 {
     int n = below(l, 4);
     int ignored = one_in(l, 3) ? below(l, 64) << 2 : 0;
@@ -681,7 +746,7 @@ static void set_motion(struct log *l, struct setup *s)
     s->enable = one_in(l, 12) ? 0 : 1 + below(l, 7);
     s->threshold = PICK(l, 0, 1, 2, 5, 20, 100, 254, 255);
     s->count = ignored | n;
-    s->latch = PICK(l, 0x00, 0x00, 0x08, 0x07, 0x0F, 0x80, 0x87, 0x78, 0xFF, 0x01, 0x0E);
+    s->latch = latch;
     put_write(l, 0x27, s->count);
     put_write(l, 0x28, s->threshold);
     put_write(l, 0x21, s->latch);
@@ -724,10 +789,11 @@ static void put_point(struct log *l, struct setup *s, bool over)
     put_sample(l, s->at);
 }
 
-static void disturb_motion(struct log *l, const struct setup *s)
+static void disturb_motion(struct log *l, struct setup *s)
 {
     int range = PICK(l, 0x03, 0x05, 0x08, 0x0C, 0x04, 0xF5);
     int detector = PICK(l, 0x10, 0x20, 0x40, 0x80);
+    int latch = any_latch(l);
 
     switch (below(l, 9)) {
     case 0:
@@ -743,13 +809,14 @@ static void disturb_motion(struct log *l, const struct setup *s)
         put_write(l, 0x21, s->latch);
         break;
     case 4:
-        put_write(l, 0x21, s->latch ^ 0x02); /* refused, and must clear nothing */
+        s->latch = latch;
+        put_write(l, 0x21, s->latch);
         break;
     case 5:
         put_write(l, 0x0F, range);
         break;
     case 6:
-        put_write(l, 0x16, detector | s->enable); /* refused */
+        put_write(l, 0x16, detector | s->enable); /* refused, and must clear nothing */
         break;
     case 7:
         put_outside_sample(l);
@@ -763,10 +830,11 @@ static void disturb_motion(struct log *l, const struct setup *s)
 static void motion_scene(struct log *l)
 {
     struct setup s;
+    int latch = any_latch(l);
     int points = 8 + below(l, 24), run = 0;
     bool over = false;
 
-    set_motion(l, &s);
+    set_motion(l, &s, latch);
     put_sample(l, s.at);
     while (points-- > 0) {
         if (run-- == 0) {
@@ -775,6 +843,12 @@ static void motion_scene(struct log *l)
         }
         put_point(l, &s, over);
         put_read(l, 0x09, 3);
+        if (one_in(l, 8)) {
+            uint32_t microseconds = clock_near(l, hold_time(s.latch));
+
+            put_clock(l, microseconds);
+            put_read(l, 0x09, 3);
+        }
         if (one_in(l, 12)) {
             disturb_motion(l, &s);
             put_read(l, 0x09, 3);
@@ -782,15 +856,204 @@ static void motion_scene(struct log *l)
     }
 }
 
-/* Sets the data interrupt and looks at it around samples, cycle starts and its enable bit. */
+/* ---- latch time scene ---- */
+
+/* What is known of a status that is held for a time, to aim at the end of it. With no axis enabled
+   the status is never set, and the aim is at nothing. */
+struct holding {
+    struct setup setup;
+    int needed;    /* over points in a row that set it */
+    int run;       /* over points in a row */
+    uint32_t left; /* microseconds until it clears; 0 while it is not set */
+};
+
+static void see_restart(struct holding *h)
+{
+    h->run = 0;
+    h->left = 0;
+}
+
+static void begin_holding(struct log *l, struct holding *h)
+{
+    int range = PICK(l, 0x03, 0x05, 0x08, 0x0C);
+    int code = one_in(l, 2) ? 0x1 + below(l, 6) : 0x9 + below(l, 6);
+    int latch = latch_byte(l, code);
+
+    put_write(l, 0x0F, range); /* forgets the sample before: the first one gives no point */
+    set_motion(l, &h->setup, latch);
+    h->needed = (h->setup.count & 3) + 1;
+    put_sample(l, h->setup.at);
+    see_restart(h);
+}
+
+static void put_points(struct log *l, struct holding *h, int points, bool over)
+{
+    while (points-- > 0) {
+        put_point(l, &h->setup, over);
+        h->run = over ? h->run + 1 : 0;
+        if (h->left == 0 && h->run >= h->needed)
+            h->left = hold_time(h->setup.latch);
+    }
+    put_read(l, 0x09, 3);
+}
+
+static void pass_time(struct log *l, struct holding *h, uint32_t microseconds)
+{
+    put_clock(l, microseconds);
+    if (microseconds < h->left)
+        h->left -= microseconds;
+    else if (h->left > 0)
+        see_restart(h);
+    if (!one_in(l, 4))
+        put_read(l, 0x09, 3);
+}
+
+/* What must neither clear the status nor change what is left of its time. */
+static void stir(struct log *l, struct holding *h)
+{
+    int points = 1 + below(l, h->needed + 1);
+    int detector = PICK(l, 0x10, 0x20, 0x40, 0x80);
+    int map = PICK(l, 0x04, 0x04, 0xFB, 0x00);
+    int other = PICK(l, 0x13, 0x17, 0x1A, 0x22, 0x26, 0x29, 0x30, 0x3E);
+
+    switch (below(l, 9)) {
+    case 0:
+    case 1:
+        put_points(l, h, points, true);
+        break;
+    case 2:
+    case 3:
+        put_points(l, h, points, false);
+        break;
+    case 4:
+        pass_time(l, h, 0);
+        break;
+    case 5:
+        put_write(l, 0x16, detector | h->setup.enable); /* refused */
+        break;
+    case 6:
+        put_write(l, 0x0F, 0x04); /* refused */
+        break;
+    case 7:
+        put_write(l, points & 1 ? 0x19 : 0x1B, map);
+        break;
+    case 8:
+        put_write(l, other, 0x40);
+        break;
+    }
+    put_read(l, 0x09, 3);
+}
+
+/* What clears status, marks, runs and the time that is left, whatever that is. */
+static void restart(struct log *l, struct holding *h)
+{
+    int latch = any_latch(l);
+
+    switch (below(l, 7)) {
+    case 0:
+        begin_holding(l, h); /* with a range first */
+        break;
+    case 1:
+        put_write(l, 0x16, h->setup.enable);
+        break;
+    case 2:
+        put_write(l, 0x21, h->setup.latch);
+        break;
+    case 3:
+        h->setup.latch = latch;
+        put_write(l, 0x21, latch);
+        break;
+    case 4:
+        put_write(l, 0x27, h->setup.count);
+        break;
+    case 5:
+        put_write(l, 0x28, h->setup.threshold);
+        break;
+    case 6:
+        put_write(l, 0x14, 0xB6);
+        put_read(l, 0x09, 3);
+        begin_holding(l, h);
+        break;
+    }
+    see_restart(h);
+    put_read(l, 0x09, 3);
+}
+
+/* Lets so much time pass, in one event or in more with something between them. */
+static void spend(struct log *l, struct holding *h, uint32_t time)
+{
+    int cuts = PICK(l, 0, 0, 1, 1, 2, 5);
+
+    while (cuts-- > 0) {
+        uint32_t any = (uint32_t)(draw(l) % ((uint64_t)time + 1));
+        uint32_t part = time > 0 && one_in(l, 4) ? 1 : one_in(l, 4) ? time : any;
+
+        pass_time(l, h, part);
+        time -= part;
+        if (one_in(l, 2))
+            stir(l, h);
+        if (one_in(l, 24))
+            restart(l, h);
+    }
+    pass_time(l, h, time);
+}
+
+/* Sets the status, or adds to its run while it stands, and goes to the end of its time or beyond;
+   then gives fewer points than would set it again, or just as many. */
+static void hold_once(struct log *l, struct holding *h)
+{
+    int behind = below(l, h->needed + 1);
+    uint32_t aim;
+
+    for (int i = 0; i < h->needed; i++) {
+        put_points(l, h, 1, true);
+        if (i + 1 < h->needed && one_in(l, 6)) { /* no time counts before the setting */
+            aim = clock_near(l, hold_time(h->setup.latch));
+            pass_time(l, h, aim);
+        }
+    }
+    if (one_in(l, 3))
+        stir(l, h);
+    if (one_in(l, 12))
+        restart(l, h);
+    aim = clock_near(l, h->left);
+    spend(l, h, aim);
+    if (h->left > 0 && !one_in(l, 4)) { /* over it by single steps */
+        pass_time(l, h, h->left - 1);
+        stir(l, h);
+        pass_time(l, h, 1);
+    }
+    put_points(l, h, behind, true);
+    if (one_in(l, 2))
+        put_points(l, h, 1, false);
+}
+
+static void latch_scene(struct log *l)
+{
+    struct holding h;
+    int turns = 1 + below(l, 4);
+
+    begin_holding(l, &h);
+    if (one_in(l, 2)) {
+        uint32_t before = one_in(l, 2) ? UINT32_MAX : any_clock(l);
+
+        pass_time(l, &h, before);
+    }
+    while (turns-- > 0)
+        hold_once(l, &h);
+}
+
+/* Sets the data interrupt and looks at it around samples, cycle starts, clocks and its enable
+   bit. */
 static void data_scene(struct log *l)
 {
     int events = 4 + below(l, 8);
 
     while (events-- > 0) {
         int enable = below(l, 8) << 4;
+        uint32_t microseconds = any_clock(l);
 
-        switch (below(l, 4)) {
+        switch (below(l, 5)) {
         case 0:
             put_cycle_start(l);
             break;
@@ -799,6 +1062,9 @@ static void data_scene(struct log *l)
             break;
         case 2:
             put_outside_sample(l);
+            break;
+        case 3:
+            put_clock(l, microseconds);
             break;
         default:
             put_any_sample(l);
@@ -810,7 +1076,7 @@ static void data_scene(struct log *l)
 
 /* ---- the last scene: only the pins at the end are printed ---- */
 
-enum { PIN_RECORDS = 11 }; /* beside the samples */
+enum { PIN_RECORDS = 13 }; /* beside the samples */
 
 static void set_pins(struct log *l)
 {
@@ -832,6 +1098,8 @@ static void pins_scene(struct log *l, int fill)
     int enable = one_in(l, 3) ? 0x40 : below(l, 8) << 4;
     int axes = below(l, 8);
     int n = PICK(l, 0, 0, 1, 3);
+    int latch = any_latch(l);
+    uint32_t microseconds = clock_near(l, hold_time(latch));
     int level = level_near(l, least(fill, depth(mode)));
     int readout = 1 + below(l, 7); /* a frame, mostly, or a part of one */
 
@@ -840,9 +1108,12 @@ static void pins_scene(struct log *l, int fill)
     put_write(l, 0x30, level);
     put_write(l, 0x3E, mode);
     put_write(l, 0x27, n);
+    put_write(l, 0x21, latch);
     put_write(l, 0x16, axes);
     while (fill-- > 0)
         put_any_sample(l);
+    if (one_in(l, 2))
+        put_clock(l, microseconds);
     if (one_in(l, 3))
         put_cycle_start(l);
     if (one_in(l, 3))
@@ -856,7 +1127,7 @@ static void any_scene(struct log *l)
     static void (*const scene[])(struct log *) = {
         fifo_scene,   fifo_scene,  watermark_scene, watermark_scene, lock_scene, burst_scene,
         corner_scene, write_scene, write_scene,     sweep_scene,     lack_scene, range_scene,
-        data_scene,   set_pins,    motion_scene,    motion_scene,
+        data_scene,   set_pins,    motion_scene,    motion_scene,    latch_scene, latch_scene,
     };
 
     if (one_in(l, 16))

@@ -60,6 +60,15 @@ static const struct {
     {0x00, 0xFF},          {0xFF, 0x00}, {0x00, 0xC3}, {0x00, 0x00}  /* 3C */
 };
 
+/* For how many microseconds each code of 0x21, its low nibble, holds a status; 0 for the four codes
+   that are non-latched or latched. */
+static const uint32_t hold_time[0x10] = {
+    [0x1] = 250000,  [0x2] = 500000,  [0x3] = 1000000, /* 250 and 500 ms, 1 s */
+    [0x4] = 2000000, [0x5] = 4000000, [0x6] = 8000000, /* 2, 4 and 8 s */
+    [0x9] = 250,     [0xA] = 500,     [0xB] = 1000,    /* 250 and 500 us, 1 ms */
+    [0xC] = 12500,   [0xD] = 25000,   [0xE] = 50000    /* 12.5, 25 and 50 ms */
+};
+
 /* ---- power-up and soft reset ---- */
 
 void peer_power_up(struct peer *t)
@@ -144,10 +153,13 @@ static void clear_motion(struct peer_motion *m)
     m->marks = 0;
     m->over_run = 0;
     m->calm_run = 0;
+    m->left = 0;
 }
 
-static void over_point(struct peer_motion *m, unsigned n, int axis, bool negative)
+static void over_point(struct peer *t, unsigned n, int axis, bool negative)
 {
+    struct peer_motion *m = &t->motion;
+
     m->calm_run = 0;
     if (m->over_run < n)
         m->over_run++;
@@ -155,15 +167,19 @@ static void over_point(struct peer_motion *m, unsigned n, int axis, bool negativ
         m->status = true;
         m->marks = (uint8_t)(1 << axis);
         m->negative = negative;
+        m->left = hold_time[t->reg[LATCH]];
     }
 }
 
-static void calm_point(struct peer_motion *m, unsigned n, bool latched)
+static void calm_point(struct peer *t, unsigned n)
 {
+    struct peer_motion *m = &t->motion;
+    bool non_latched = (t->reg[LATCH] & 7) == 0;
+
     m->over_run = 0;
     if (m->calm_run < n)
         m->calm_run++;
-    if (m->calm_run == n && !latched) {
+    if (m->calm_run == n && non_latched) {
         m->status = false;
         m->marks = 0;
     }
@@ -177,10 +193,10 @@ static void judge_point(struct peer *t, const int difference[PEER_AXES])
 
     for (int axis = 0; axis < PEER_AXES; axis++)
         if (enabled >> axis & 1 && abs(difference[axis]) > threshold) {
-            over_point(&t->motion, n, axis, difference[axis] < 0);
+            over_point(t, n, axis, difference[axis] < 0);
             return;
         }
-    calm_point(&t->motion, n, (t->reg[LATCH] & 7) == 7);
+    calm_point(t, n);
 }
 
 static void any_motion(struct peer *t, const int sample[PEER_AXES])
@@ -213,13 +229,6 @@ static enum peer_answer refuse_range(uint8_t byte)
     }
 }
 
-static enum peer_answer refuse_latch(uint8_t byte)
-{
-    unsigned code = byte & 7; /* bit 3 makes no difference */
-
-    return code == 0 || code == 7 ? PEER_DONE : PEER_NO_LATCH_TIME;
-}
-
 /* Gives the number of the register where the byte has one of the bits that the twin lacks. */
 static enum peer_answer refuse_bits(uint8_t byte, uint8_t lacking, enum peer_answer number)
 {
@@ -234,8 +243,6 @@ static enum peer_answer refuse_write(uint8_t address, uint8_t byte)
         return refuse_range(byte);
     case FIFO_MODE:
         return (byte & MODE_BITS) == MODE_BITS ? PEER_RESERVED_CODE : PEER_DONE;
-    case LATCH:
-        return refuse_latch(byte);
     case 0x11:
         return refuse_bits(byte, 0xE0, PEER_NO_POWER_MODE);
     case ENABLE_MOTION:
@@ -390,7 +397,7 @@ enum peer_answer peer_read(struct peer *t, uint8_t address, uint8_t *buffer, siz
     return PEER_DONE;
 }
 
-/* ---- sample and cycle start ---- */
+/* ---- sample, cycle start and clock ---- */
 
 static bool outside_12_bits(int value)
 {
@@ -419,6 +426,18 @@ enum peer_answer peer_sample(struct peer *t, int x, int y, int z, uint8_t temper
 enum peer_answer peer_cycle_start(struct peer *t)
 {
     t->fresh_data = false;
+    return PEER_DONE;
+}
+
+/* Where no temporary status is set, runs and all else stay. */
+enum peer_answer peer_clock(struct peer *t, uint32_t microseconds)
+{
+    struct peer_motion *m = &t->motion;
+
+    if (microseconds < m->left)
+        m->left -= microseconds;
+    else if (m->left > 0)
+        clear_motion(m);
     return PEER_DONE;
 }
 

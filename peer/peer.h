@@ -1,5 +1,6 @@
-/* A twin of the BMA255 accelerometer: registers 0x00 to 0x3F, three data channels, the FIFO,
-   the any-motion detector and both interrupt pins. Plain C11, no heap, updated in place.
+/* A twin of the BMA255 accelerometer: registers 0x00 to 0x3F, three data channels, the FIFO, the
+   any-motion detector with its latch times and both interrupt pins. Plain C11, no heap, updated in
+   place.
 
    The caller owns a struct peer and starts it with peer_power_up(); the fields are not for use
    outside peer.c. Each event gives back one of the numbers below; a number other than PEER_DONE
@@ -20,8 +21,8 @@ enum {
     PEER_LONGEST_READ = 192
 };
 
-/* 3 is not given any more: 11 to 14 stand in its place and tell by register what the twin lacks. 10
-   is for a writer of logs, which is not here. */
+/* 3 and 14 are not given any more: 11 to 13 stand in the place of 3 and tell by register what the
+   twin lacks; 14 was for latch times. 10 is for a writer of logs, which is not here. */
 enum peer_answer {
     PEER_DONE = 0,              /* done, or a write that the chip ignores */
     PEER_WRONG_ADDRESS = 1,     /* address above 0x3F */
@@ -34,9 +35,8 @@ enum peer_answer {
     PEER_LOG_CUT = 9,           /* log cut, or empty */
     PEER_NO_DETECTOR = 11,      /* a detector bit in 0x16 to 0x18 */
     PEER_NO_POWER_MODE = 12,    /* a power mode in 0x11 */
-    PEER_NO_TEST_OR_TRIM = 13,  /* self-test, memory, calibration or offset in 0x32, 0x33, 0x36,
+    PEER_NO_TEST_OR_TRIM = 13   /* self-test, memory, calibration or offset in 0x32, 0x33, 0x36,
                                    0x38 to 0x3A */
-    PEER_NO_LATCH_TIME = 14     /* a latch time in 0x21 */
 };
 
 enum peer_level { PEER_LOW, PEER_HIGH, PEER_RELEASED };
@@ -60,6 +60,7 @@ struct peer_motion {
     bool negative;    /* 0x0B bit 3 */
     uint8_t over_run; /* over points in a row, counted up to N */
     uint8_t calm_run; /* calm points in a row, counted up to N */
+    uint32_t left;    /* microseconds until a temporary status clears; 0 while there is none */
 };
 
 struct peer {
@@ -76,6 +77,7 @@ enum peer_answer peer_write(struct peer *t, uint8_t address, uint8_t byte);
 enum peer_answer peer_read(struct peer *t, uint8_t address, uint8_t *buffer, size_t length);
 enum peer_answer peer_sample(struct peer *t, int x, int y, int z, uint8_t temperature);
 enum peer_answer peer_cycle_start(struct peer *t);
+enum peer_answer peer_clock(struct peer *t, uint32_t microseconds);
 struct peer_pins peer_pins(const struct peer *t);
 
 #endif
