@@ -1,4 +1,5 @@
 // Replays each log of data/, whose files are named 000, 001, .., and prints what the log's writer answers at the edges of its room.
+use benchlog::ClockEntry;
 use benchlog::CycleEntry;
 use benchlog::Entry;
 use benchlog::WriteEntry;
@@ -76,9 +77,21 @@ fn records() {
     );
 }
 
+// 10: a clock with exactly its room, and with a byte less.
+fn clocks() {
+    let entry = Entry::Clock(ClockEntry {
+        microseconds: 0x12345678,
+    });
+    let mut seven = [0xEEu8; 7];
+    put_written(&mut seven, 0, entry);
+    let mut six = [0xEEu8; 6];
+    put_written(&mut six, 0, entry);
+}
+
 fn main() {
     versions();
     records();
+    clocks();
     let mut n: u16 = 0;
     while n < 1000 {
         if !case(n) {

@@ -17,6 +17,7 @@ main-spec =
     μ-loop
     (λ c κs. tt)
     (λ c κs. tt)
+    (λ c κs. tt)
     (λ c. tt)
     (λ c κs. tt)
     (λ c. tt)
