@@ -16,7 +16,7 @@ abbrev pub clockOver : List Event → ℕ
 clockOver [] = 0
 clockOver (e ∷ later) = passing e + clockOver later
 
--- none of the later events, which come behind es, restarts: power-up, soft reset or "a write that restarts clears it at once"
+-- none of the later events, which come behind es, is power-up, a soft reset or "an accepted write to 0x0F, 0x16, 0x21, 0x27 or 0x28"
 abbrev pub NoneRestarts : List Event → List Event → Type 0
 NoneRestarts es [] = Unit {0}
 NoneRestarts es (e ∷ later) = (restarts (later ++ es) e ≡ false) × NoneRestarts es later
