@@ -9,6 +9,7 @@ use Rattle.laws.specs.Choice.{pick, either}
 use Rattle.laws.specs.Bits.{bit, worth}
 use Rattle.alarm.specs.Alarm.{off, raised, cleared, isRunning, waited, lapseOf, marksOf, isAxisMark, Marked}
 use Rattle.alarm.specs.declared.Alarm.{Alarm}
+use Rattle.alarm.specs.declared.Lapse.{Lapse}
 use Rattle.alarm.specs.declared.Lapse.the-variants.{Stands, Expires}
 
 -- ---- setting and clearing
@@ -56,6 +57,15 @@ module _ (us : ℕ) (a : Alarm) where
   pub reached : ¬ (a .remaining ≡ 0) → a .remaining ≤ us → lapseOf us a ≡ Expires (us - a .remaining)
   unfolding lapseOf
   reached h k = rw (lt-ltb 0 (a .remaining) (omega arith), le-leb (a .remaining) us k)
+
+-- what of the clock comes after an expiry
+abbrev pub restIn : Lapse → ℕ
+restIn (Stands a) = 0
+restIn (Expires rest) = rest
+
+-- "Two clock events in a row equal one of their sum": what remained and the rest that is told are the whole clock
+pub parts : (us : ℕ) (a : Alarm) → ¬ (a .remaining ≡ 0) → a .remaining ≤ us → a .remaining + restIn (lapseOf us a) ≡ us
+parts us a h k = rw (reached us a h k) (omega arith)
 
 -- a clock of 0 changes nothing
 pub none-passes : (a : Alarm) → lapseOf 0 a ≡ Stands a

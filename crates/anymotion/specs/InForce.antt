@@ -48,18 +48,18 @@ ms n = 1000 * n
 abbrev s : ℕ → ℕ
 s n = ms (1000 * n)
 
--- of the codes from one on, one after the other
+-- the times of 0001 to 0110, and of 1001 to 1110
 abbrev pub longTimes : List ℕ
 longTimes = ms 250 ∷ ms 500 ∷ s 1 ∷ s 2 ∷ s 4 ∷ s 8 ∷ []
 
 abbrev pub shortTimes : List ℕ
 shortTimes = 250 ∷ 500 ∷ ms 1 ∷ ms 125 / 10 ∷ ms 25 ∷ ms 50 ∷ []
 
--- the time of a code between two, or other
+-- of a code from a first one to a last one its time, of any other code other
 abbrev pub timeAmong : ℕ → ℕ → List ℕ → ℕ → ℕ → ℕ
 timeAmong first last times code other = pick (both (leb first code) (leb code last)) (getD times (code - first) 0) other
 
--- how long a byte of 0x21 holds a status; 0 where no time clears it
+-- how long a code of 0x21 holds a status; 0 where no time clears it
 abbrev pub timeOfCode : ℕ → ℕ
 timeOfCode code = timeAmong 0b0001 0b0110 longTimes code (timeAmong 0b1001 0b1110 shortTimes code 0)
 
