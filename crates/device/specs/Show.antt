@@ -7,6 +7,7 @@ use Rattle.laws.specs.Choice.{pick}
 use Rattle.codes.specs.Addresses.{rangeAt, controlAt}
 use Rattle.codes.specs.Mode.{modeOf}
 use Rattle.codes.specs.Range.{rangeOf}
+use Rattle.codes.specs.declared.Mode.{Mode}
 use Rattle.codes.specs.declared.Range.{Range}
 use Rattle.fifo.specs.Setting.{depthIn}
 use Rattle.fifo.specs.Store.{countAt, statusAt}
@@ -61,3 +62,7 @@ heldIn d = countAt depth (d .fifo)
 -- the measuring range, by the byte of 0x0F
 abbrev pub rangeIn : Device → Range
 rangeIn d = rangeOf (getD (d .regs) rangeAt 0)
+
+-- the FIFO's mode, by the byte of 0x3E
+abbrev pub modeIn : Device → Mode
+modeIn d = modeOf (getD (d .regs) controlAt 0)

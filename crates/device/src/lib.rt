@@ -3,14 +3,17 @@ ghost use mathlib.Core.Path.{_≡_};
 ghost use lib.ListN.{length};
 ghost use Rattle.fifo.specs.Flat.{flatAt};
 ghost use Rattle.device.specs.Device.{powerUp, withFlat};
-ghost use Rattle.device.specs.Show.{pinsOf, heldIn, rangeIn};
+ghost use Rattle.device.specs.Show.{pinsOf, heldIn, rangeIn, modeIn};
 ghost use Rattle.device.specs.Write.{writeOf};
 ghost use Rattle.device.specs.Read.{readOf, bufferAfter};
 ghost use Rattle.device.specs.Sample.{sampleOf, cycleOf};
 ghost use Rattle.device.specs.Clock.{clockOf};
 use channels::Channels;
+use codes::CONTROL_AT;
+use codes::Mode;
 use codes::RANGE_AT;
 use codes::Range;
+use codes::mode_of;
 use codes::range_of;
 use detectors::Detectors;
 use fifo::Fifo;
@@ -172,5 +175,13 @@ impl Device {
     {
         let regs = self.regs;
         range_of(regs[RANGE_AT])
+    }
+
+    // The FIFO's mode.
+    pub fn mode(self) -> Mode
+        ensures { λ r. ⌜ r ≡ modeIn self ⌝ }
+    {
+        let regs = self.regs;
+        mode_of(regs[CONTROL_AT])
     }
 }

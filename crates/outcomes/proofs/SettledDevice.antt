@@ -20,6 +20,7 @@ use Rattle.device.proofs.Device.clock as clock
 use Rattle.device.proofs.Device.pins as pins
 use Rattle.device.proofs.Device.held as held
 use Rattle.device.proofs.Device.range as range
+use Rattle.device.proofs.Device.mode as mode
 use Rattle.outcomes.proofs.Plain.{plain}
 
 power-up-settled : Settled power-up.ended (λ M. power-up.clauses) (λ M. power-up.spec)
@@ -71,3 +72,6 @@ held-settled = plain (λ κs a s s′. refl)
 
 range-settled : Settled range.ended (λ M. range.clauses) (λ M. range.spec)
 range-settled = plain (λ κs a s s′. refl)
+
+mode-settled : Settled mode.ended (λ M. mode.clauses) (λ M. mode.spec)
+mode-settled = plain (λ κs a s s′. refl)
