@@ -1,14 +1,17 @@
-// The account of a device's events, stepped by what the device says: an event, its answer, and the range and the frames held behind it.
-// It takes a few numbers whatever the events are.
+// The account of a device's events, stepped by what the device says: an event, its answer, and the range, the mode and the frames held
+// behind it. It takes a few numbers whatever the events are.
 ghost use mathlib.Core.Path.{_≡_};
 ghost use Rattle.events.specs.Event.{write, read, sample, cycle};
-ghost use Rattle.account.specs.Account.{refusedBy, whyOfWrite, whyOfRead, doubtAfter, accountAfter};
+ghost use Rattle.account.specs.Account.{refusedBy, readoutsBy, whyOfWrite, whyOfRead, doubtAfter, doubtsAfter, accountAfter};
+use codes::CONTROL_AT;
 use codes::FRAMES_AT;
+use codes::Mode;
 use codes::RANGE_AT;
 use codes::RESET_AT;
 use codes::Range;
 use counts::Account;
 use counts::Doubt;
+use counts::Doubts;
 use counts::Why;
 use counts::less_by;
 use counts::plus;
@@ -48,16 +51,39 @@ pub fn why_of_read(address: u8, answer: Answer) -> Why
     }
 }
 
-// The doubt behind a write, which is event number and of byte.
-fn doubt_after(doubt: Doubt, why: Why, number: u64, byte: u8) -> Doubt
-    ensures { λ r. ⌜ r ≡ doubtAfter doubt why number byte ⌝ }
+// What is doubted of what the register at about sets, behind a write, which is event number.
+fn doubt_after(
+    doubt: Doubt,
+    about: usize,
+    address: u8,
+    byte: u8,
+    answer: Answer,
+    number: u64,
+) -> Doubt
+    ensures { λ r. ⌜ r ≡ doubtAfter doubt about address byte answer number ⌝ }
 {
-    match why {
-        Why::Nothing => doubt,
-        Why::Readout => doubt,
-        Why::Range => Doubt::No,
-        Why::Refused => Doubt::By(number, byte),
-        Why::Reset => Doubt::No,
+    if both(address as usize == RESET_AT, byte == SOFT_RESET) {
+        return Doubt::No;
+    }
+    if address as usize != about {
+        return doubt;
+    }
+    if is_accepted(answer) {
+        Doubt::No
+    } else {
+        Doubt::By(number, byte)
+    }
+}
+
+// Of the range and of the mode.
+fn doubts_after(doubts: Doubts, address: u8, byte: u8, answer: Answer, number: u64) -> Doubts
+    ensures { λ r. ⌜ r ≡ doubtsAfter doubts address byte answer number ⌝ }
+{
+    let range = doubts.range;
+    let mode = doubts.mode;
+    Doubts {
+        range: doubt_after(range, RANGE_AT, address, byte, answer, number),
+        mode: doubt_after(mode, CONTROL_AT, address, byte, answer, number),
     }
 }
 
@@ -68,23 +94,35 @@ fn refused_by(answer: Answer) -> u64
     if is_accepted(answer) { 0 } else { 1 }
 }
 
-// Behind a write: its address, its byte and its answer, and the range and the frames held behind it. Frames that left were cleared.
+// 1 for a readout.
+fn readouts_by(address: u8, answer: Answer) -> u64
+    ensures { λ r. ⌜ r ≡ readoutsBy address answer ⌝ }
+{
+    if both(address as usize == FRAMES_AT, is_accepted(answer)) {
+        1
+    } else {
+        0
+    }
+}
+
+// Behind a write: its address, its byte and its answer, and the range, the mode and the frames held behind it. Frames that left were
+// cleared.
 pub fn after_write(
     account: Account,
     address: u8,
     byte: u8,
     answer: Answer,
     range: Range,
+    mode: Mode,
     held: u64,
 ) -> Account
-    ensures { λ r. ⌜ r ≡ accountAfter account (write address byte) answer range held ⌝ }
+    ensures { λ r. ⌜ r ≡ accountAfter account (write address byte) answer range mode held ⌝ }
 {
     let counts = account.counts;
     let counts = counts.with_left(0, less_by(account.held, held), refused_by(answer));
-    let doubt = account.doubt;
-    let why = why_of_write(address, byte, answer);
-    let doubt = doubt_after(doubt, why, plus(account.number, 1), byte);
-    account.moved(counts, doubt, range, held)
+    let doubts = account.doubts;
+    let doubts = doubts_after(doubts, address, byte, answer, plus(account.number, 1));
+    account.moved(counts, doubts, range, mode, held)
 }
 
 // Behind a read of so many bytes from an address on. Frames that left were taken.
@@ -94,14 +132,16 @@ pub fn after_read(
     count: u8,
     answer: Answer,
     range: Range,
+    mode: Mode,
     held: u64,
 ) -> Account
-    ensures { λ r. ⌜ r ≡ accountAfter account (read address count) answer range held ⌝ }
+    ensures { λ r. ⌜ r ≡ accountAfter account (read address count) answer range mode held ⌝ }
 {
     let counts = account.counts;
-    let doubt = account.doubt;
+    let doubts = account.doubts;
     let counts = counts.with_left(less_by(account.held, held), 0, refused_by(answer));
-    account.moved(counts, doubt, range, held)
+    let counts = counts.with_readouts(readouts_by(address, answer));
+    account.moved(counts, doubts, range, mode, held)
 }
 
 // Behind a sample. Where it is accepted there is one frame more, or a sample was lost.
@@ -113,30 +153,38 @@ pub fn after_sample(
     temperature: u8,
     answer: Answer,
     range: Range,
+    mode: Mode,
     held: u64,
 ) -> Account
-    ensures { λ r. ⌜ r ≡ accountAfter account (sample x y z temperature) answer range held ⌝ }
+    ensures { λ r. ⌜ r ≡ accountAfter account (sample x y z temperature) answer range mode held ⌝ }
 {
     let counts = account.counts;
-    let doubt = account.doubt;
+    let doubts = account.doubts;
     let full = plus(account.held, 1);
     if is_accepted(answer) {
-        account.moved(counts.with_arrived(less_by(full, held)), doubt, range, held)
+        account.moved(
+            counts.with_arrived(less_by(full, held)),
+            doubts,
+            range,
+            mode,
+            held,
+        )
     } else {
-        account.moved(counts.with_left(0, 0, 1), doubt, range, held)
+        account.moved(counts.with_left(0, 0, 1), doubts, range, mode, held)
     }
 }
 
 // Behind an event at which no frame comes or goes: a cycle start, or a clock, of which accountAfter says the same (proofs/Idle).
-pub fn after_idle(account: Account, answer: Answer, range: Range, held: u64) -> Account
-    ensures { λ r. ⌜ r ≡ accountAfter account cycle answer range held ⌝ }
+pub fn after_idle(account: Account, answer: Answer, range: Range, mode: Mode, held: u64) -> Account
+    ensures { λ r. ⌜ r ≡ accountAfter account cycle answer range mode held ⌝ }
 {
     let counts = account.counts;
-    let doubt = account.doubt;
+    let doubts = account.doubts;
     account.moved(
         counts.with_left(0, 0, refused_by(answer)),
-        doubt,
+        doubts,
         range,
+        mode,
         held,
     )
 }

@@ -1,5 +1,5 @@
-// Answers what is asked of the log on standard input, on standard output: its stretches; with `samples`, its samples too; with FROM TO,
-// in words, what came after record FROM and up to record TO.
+// Answers what is asked of the log on standard input, on standard output: its stretches; with `modes`, their modes; with `samples`, its
+// samples too; in words, with FROM TO, what came after record FROM and up to record TO; and with `all`, what came at all.
 use arguments::Wanted;
 use arguments::wanted_of;
 use libc::STDIN_FILENO;
@@ -15,7 +15,7 @@ fn main() {
     let Wanted::Of(asked) = wanted else {
         ending::tell_use(
             b"answer",
-            b"it takes no argument, the word samples, or two record numbers, of which the first is smaller",
+            b"it takes no argument, one of the words modes, samples and all, or two record numbers, of which the first is smaller",
         );
         return;
     };

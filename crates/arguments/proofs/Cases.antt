@@ -3,8 +3,8 @@
 use mathlib.Core.List.{[]}
 use mathlib.Core.Path.{_≡_, refl}
 use Rattle.text.specs.Text.{ascii}
-use Rattle.answers.specs.declared.Asked.the-variants.{Stretches, Samples, Between}
-use Rattle.arguments.specs.Words.{numberOf, sameWord, wantedOf}
+use Rattle.answers.specs.declared.Asked.the-variants.{Stretches, Modes, Samples, Between, Whole}
+use Rattle.arguments.specs.Words.{numberOf, sameWord, byWord, wantedOf}
 use Rattle.arguments.specs.declared.Number.the-variants.{No, Is}
 use Rattle.arguments.specs.declared.Wanted.the-variants.{Wrong, Of}
 
@@ -22,11 +22,19 @@ unfolding wantedOf
 no-words = refl
 
 pub samples-too : wantedOf 2 (ascii "samples") [] ≡ Of Samples
-unfolding wantedOf sameWord
+unfolding wantedOf byWord sameWord
 samples-too = refl
 
+pub modes-too : wantedOf 2 (ascii "modes") [] ≡ Of Modes
+unfolding wantedOf byWord sameWord
+modes-too = refl
+
+pub all-of-it : wantedOf 2 (ascii "all") [] ≡ Of Whole
+unfolding wantedOf byWord sameWord
+all-of-it = refl
+
 pub another-word : wantedOf 2 (ascii "sample") [] ≡ Wrong
-unfolding wantedOf sameWord
+unfolding wantedOf byWord sameWord
 another-word = refl
 
 -- 64 bits, and one more

@@ -6,7 +6,7 @@ use lib.Dec.{eqb, ltb}
 use lib.ListN.{length}
 use Rattle.laws.specs.Choice.{pick, both}
 use Rattle.text.specs.Text.{ascii, value}
-use Rattle.answers.specs.declared.Asked.the-variants.{Stretches, Samples, Between}
+use Rattle.answers.specs.declared.Asked.the-variants.{Stretches, Modes, Samples, Between, Whole}
 use Rattle.arguments.specs.declared.Number.{Number}
 use Rattle.arguments.specs.declared.Number.the-variants.{No, Is}
 use Rattle.arguments.specs.declared.Wanted.{Wanted}
@@ -46,9 +46,16 @@ betweenOf No upto = Wrong
 betweenOf (Is from) No = Wrong
 betweenOf (Is from) (Is upto) = pick (ltb from upto) (Of (Between from upto)) Wrong
 
--- none behind the program's name, which is counted; `samples`; or FROM TO; and nothing else
+-- `modes`, `samples` or `all`
+unfoldable pub byWord : List ℕ → Wanted
+byWord word =
+    pick (sameWord word (ascii "modes")) (Of Modes)
+    (pick (sameWord word (ascii "samples")) (Of Samples)
+    (pick (sameWord word (ascii "all")) (Of Whole) Wrong))
+
+-- none behind the program's name, which is counted; one of those; or FROM TO; and nothing else
 unfoldable pub wantedOf : ℕ → List ℕ → List ℕ → Wanted
 wantedOf count first second =
     pick (eqb count 1) (Of Stretches)
-    (pick (eqb count 2) (pick (sameWord first (ascii "samples")) (Of Samples) Wrong)
+    (pick (eqb count 2) (byWord first)
     (pick (eqb count 3) (betweenOf (numberOf first) (numberOf second)) Wrong))

@@ -1,7 +1,7 @@
 // What the words behind a program's name ask for. What is not asked for in so many words is not asked for.
 ghost use mathlib.Core.Path.{_≡_};
 ghost use Rattle.text.specs.Text.{ascii};
-ghost use Rattle.arguments.specs.Words.{withDigit, numberOf, sameWord, betweenOf, wantedOf};
+ghost use Rattle.arguments.specs.Words.{withDigit, numberOf, sameWord, byWord, betweenOf, wantedOf};
 use answers::Asked;
 
 // The number that a word stands for, where it does.
@@ -59,6 +59,34 @@ fn is_samples(word: &[u8]) -> bool
     check::same(word, b"samples")
 }
 
+fn is_modes(word: &[u8]) -> bool
+    ensures { λ r. ⌜ r ≡ sameWord (now (word .entry)) (ascii "modes") ⌝ }
+{
+    check::same(word, b"modes")
+}
+
+fn is_all(word: &[u8]) -> bool
+    ensures { λ r. ⌜ r ≡ sameWord (now (word .entry)) (ascii "all") ⌝ }
+{
+    check::same(word, b"all")
+}
+
+// What one word asks for.
+fn by_word(word: &[u8]) -> Wanted
+    ensures { λ r. ⌜ r ≡ byWord (now (word .entry)) ⌝ }
+{
+    if is_modes(word) {
+        return Wanted::Of(Asked::Modes);
+    }
+    if is_samples(word) {
+        return Wanted::Of(Asked::Samples);
+    }
+    if is_all(word) {
+        return Wanted::Of(Asked::Whole);
+    }
+    Wanted::Wrong
+}
+
 // What came after one record and up to another, which is a later one.
 fn between(from: Number, upto: Number) -> Wanted
     ensures { λ r. ⌜ r ≡ betweenOf from upto ⌝ }
@@ -84,11 +112,7 @@ pub fn wanted_of(count: usize, first: &[u8], second: &[u8]) -> Wanted
         return Wanted::Of(Asked::Stretches);
     }
     if count == 2 {
-        return if is_samples(first) {
-            Wanted::Of(Asked::Samples)
-        } else {
-            Wanted::Wrong
-        };
+        return by_word(first);
     }
     if count == 3 {
         return between(number_of(first), number_of(second));

@@ -1,23 +1,33 @@
-// What is known of a device's events, as a few numbers: samples accepted, taken and lost, frames held when the FIFO was cleared, and events
-// refused; the range in force, and whether it is in doubt; and why a stretch of events ends. It rests on no device: who steps it gives
-// what changed.
+// What is known of a device's events, as a few numbers: samples accepted, taken and lost, frames held when the FIFO was cleared, events
+// refused, and readouts; the range and the FIFO's mode in force, and whether each is in doubt; and why a stretch of events ends. It rests
+// on no device: who steps it gives what changed.
 ghost use mathlib.Core.Path.{_≡_};
-ghost use Rattle.counts.specs.Counts.{noCounts, firstAccount, sum, less, left, differences, accountMoved, arrived, ends};
+ghost use Rattle.counts.specs.Counts.{noCounts, noDoubts, firstAccount, sum, less, left, readOut, differences, accountMoved, arrived, ends, isSameDoubt, isSameRange, isSameMode, inG, modeBits, backOf};
+use codes::Mode;
 use codes::Range;
+use laws::both;
 
-// How many, since power-up: samples accepted, frames taken, samples lost, frames held when the FIFO was cleared, and events refused.
+// How many, since power-up: samples accepted, frames taken, samples lost, frames held when the FIFO was cleared, events refused, and
+// readouts.
 pub struct Counts {
     pub accepted: u64,
     pub taken: u64,
     pub lost: u64,
     pub cleared: u64,
     pub refused: u64,
+    pub readouts: u64,
 }
 
-// Whether the range is in doubt: by the refused write to 0x0F of this record, of this byte.
+// Whether what a register sets is in doubt: by the refused write to it of this record, of this byte.
 pub enum Doubt {
     No,
     By(u64, u8),
+}
+
+// The doubt of the range, by 0x0F, and of the FIFO's mode, by 0x3E.
+pub struct Doubts {
+    pub range: Doubt,
+    pub mode: Doubt,
 }
 
 // Why a stretch of events ends with this one, where it does.
@@ -29,12 +39,13 @@ pub enum Why {
     Reset,
 }
 
-// What is known after so many events: the counts, the range in force and its doubt, and the frames held.
+// What is known after so many events: the counts, the range and the mode in force and their doubts, and the frames held.
 pub struct Account {
     pub number: u64,
     pub counts: Counts,
-    pub doubt: Doubt,
+    pub doubts: Doubts,
     pub range: Range,
+    pub mode: Mode,
     pub held: u64,
 }
 
@@ -74,6 +85,7 @@ impl Counts {
             lost: 0,
             cleared: 0,
             refused: 0,
+            readouts: 0,
         }
     }
 
@@ -87,6 +99,7 @@ impl Counts {
             lost: less_by(self.lost, earlier.lost),
             cleared: less_by(self.cleared, earlier.cleared),
             refused: less_by(self.refused, earlier.refused),
+            readouts: less_by(self.readouts, earlier.readouts),
         }
     }
 
@@ -100,6 +113,21 @@ impl Counts {
             lost: self.lost,
             cleared: plus(self.cleared, cleared),
             refused: plus(self.refused, refused),
+            readouts: self.readouts,
+        }
+    }
+
+    // With so many readouts more.
+    pub fn with_readouts(self, readouts: u64) -> Self
+        ensures { λ r. ⌜ r ≡ readOut self readouts ⌝ }
+    {
+        Counts {
+            accepted: self.accepted,
+            taken: self.taken,
+            lost: self.lost,
+            cleared: self.cleared,
+            refused: self.refused,
+            readouts: plus(self.readouts, readouts),
         }
     }
 
@@ -113,6 +141,18 @@ impl Counts {
             lost: plus(self.lost, lost),
             cleared: self.cleared,
             refused: self.refused,
+            readouts: self.readouts,
+        }
+    }
+}
+
+impl Doubts {
+    pub fn none() -> Self
+        ensures { λ r. ⌜ r ≡ noDoubts ⌝ }
+    {
+        Doubts {
+            range: Doubt::No,
+            mode: Doubt::No,
         }
     }
 }
@@ -125,22 +165,112 @@ impl Account {
         Account {
             number: 0,
             counts: Counts::none(),
-            doubt: Doubt::No,
+            doubts: Doubts::none(),
             range: Range::G2,
+            mode: Mode::Bypass,
             held: 0,
         }
     }
 
     // One event further.
-    pub fn moved(self, counts: Counts, doubt: Doubt, range: Range, held: u64) -> Self
-        ensures { λ r. ⌜ r ≡ accountMoved self counts doubt range held ⌝ }
+    pub fn moved(self, counts: Counts, doubts: Doubts, range: Range, mode: Mode, held: u64) -> Self
+        ensures { λ r. ⌜ r ≡ accountMoved self counts doubts range mode held ⌝ }
     {
         Account {
             number: plus(self.number, 1),
             counts,
-            doubt,
+            doubts,
             range,
+            mode,
             held,
         }
+    }
+
+    // Whether the range, and what is doubted of it, is the same in both.
+    pub fn has_range_of(self, other: Account) -> bool
+        ensures { λ r. ⌜ r ≡ isSameRange self other ⌝ }
+    {
+        let mine = self.range;
+        let others = other.range;
+        let doubts = self.doubts;
+        let doubted = other.doubts;
+        let doubt = doubts.range;
+        let other_doubt = doubted.range;
+        both(in_g(mine) == in_g(others), same_doubt(doubt, other_doubt))
+    }
+
+    // Whether the mode, and what is doubted of it, is.
+    pub fn has_mode_of(self, other: Account) -> bool
+        ensures { λ r. ⌜ r ≡ isSameMode self other ⌝ }
+    {
+        let mine = self.mode;
+        let others = other.mode;
+        let doubts = self.doubts;
+        let doubted = other.doubts;
+        let doubt = doubts.mode;
+        let other_doubt = doubted.mode;
+        both(
+            mode_bits(mine) == mode_bits(others),
+            same_doubt(doubt, other_doubt),
+        )
+    }
+}
+
+// ---- what is the same
+// A range in g, and 0 where it is none.
+fn in_g(range: Range) -> u8
+    ensures { λ r. ⌜ r ≡ inG range ⌝ }
+{
+    match range {
+        Range::G2 => 2,
+        Range::G4 => 4,
+        Range::G8 => 8,
+        Range::G16 => 16,
+        Range::Reserved => 0,
+    }
+}
+
+// A mode's bits in 0x3E.
+fn mode_bits(mode: Mode) -> u8
+    ensures { λ r. ⌜ r ≡ modeBits mode ⌝ }
+{
+    match mode {
+        Mode::Bypass => 0,
+        Mode::Fifo => 1,
+        Mode::Stream => 2,
+        Mode::Reserved => 3,
+    }
+}
+
+// Whether two doubts are by the same record and byte, or neither is one.
+fn same_doubt(one: Doubt, other: Doubt) -> bool
+    ensures { λ r. ⌜ r ≡ isSameDoubt one other ⌝ }
+{
+    match one {
+        Doubt::No => match other {
+            Doubt::No => true,
+            Doubt::By(_, _) => false,
+        },
+        Doubt::By(number, byte) => match other {
+            Doubt::No => false,
+            Doubt::By(others, another) => both(number == others, byte == another),
+        },
+    }
+}
+
+// ---- which sample is lost
+// Of the sample that an arrival lost, how many accepted samples it came before the newcomer, in this mode and with so many held before it:
+// 0 is the newcomer itself, and 0 also where none was lost.
+pub fn back_of(lost: u64, mode: Mode, held: u64) -> u64
+    ensures { λ r. ⌜ r ≡ backOf lost mode held ⌝ }
+{
+    if lost == 0 {
+        return 0;
+    }
+    match mode {
+        Mode::Bypass => held,
+        Mode::Fifo => 0,
+        Mode::Stream => held,
+        Mode::Reserved => 0,
     }
 }

@@ -11,6 +11,9 @@ after-read-spec =
     (λ c κs. tt)
     (λ c κs. tt)
     (λ c κs. tt)
+    (λ c κs. tt)
+    (λ c κs. tt)
     (λ c.
-    let left = c .before in
-    simp (c .moved .ensures, left .with-left .ensures, left .before .refused-by .ensures, left .before .before .less-by .ensures)))
+    let counts = c .before in
+    let left = counts .before .before in
+    simp (c .moved .ensures, counts .with-readouts .ensures, counts .before .readouts-by .ensures, left .with-left .ensures, left .before .refused-by .ensures, left .before .before .less-by .ensures)))

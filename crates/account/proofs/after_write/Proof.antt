@@ -13,8 +13,7 @@ after-write-spec =
     (λ c κs. tt)
     (λ c κs. tt)
     (λ c κs. tt)
-    (λ c κs. tt)
     (λ c.
     let number = c .before .before in
     let left = number .before .before in
-    simp (c .moved .ensures, c .before .doubt-after .ensures, number .plus .ensures, number .before .why-of-write .ensures, left .with-left .ensures, left .before .refused-by .ensures, left .before .before .less-by .ensures)))
+    simp (c .moved .ensures, c .before .doubts-after .ensures, number .plus .ensures, left .with-left .ensures, left .before .refused-by .ensures, left .before .before .less-by .ensures)))

@@ -11,15 +11,12 @@ wanted-of-spec =
     (λ c. simp (eq-eqb _ _ (c .if1 .taken)))
     (λ c κs. tt)
     (λ c.
-    let two = c .before .before in
-    simp (ne-eqb _ _ (two .before .if1 .left), eq-eqb _ _ (two .if2 .taken), ← c .before .is-samples .ensures, c .if3 .taken))
-    (λ c.
-    let two = c .before .before in
-    simp (ne-eqb _ _ (two .before .if1 .left), eq-eqb _ _ (two .if2 .taken), ← c .before .is-samples .ensures, c .if3 .left))
+    let two = c .before in
+    simp (ne-eqb _ _ (two .before .if1 .left), eq-eqb _ _ (two .if2 .taken), c .by-word .ensures))
     (λ c κs. tt)
     (λ c κs. tt)
     (λ c κs. tt)
     (λ c.
     let three = c .before .before .before in
-    simp (ne-eqb _ _ (three .before .before .if1 .left), ne-eqb _ _ (three .before .if2 .left), eq-eqb _ _ (three .if4 .taken), c .between .ensures, c .before .number-of2 .ensures, c .before .before .number-of .ensures))
-    (λ c. simp (ne-eqb _ _ (c .before .before .if1 .left), ne-eqb _ _ (c .before .if2 .left), ne-eqb _ _ (c .if4 .left))))
+    simp (ne-eqb _ _ (three .before .before .if1 .left), ne-eqb _ _ (three .before .if2 .left), eq-eqb _ _ (three .if3 .taken), c .between .ensures, c .before .number-of2 .ensures, c .before .before .number-of .ensures))
+    (λ c. simp (ne-eqb _ _ (c .before .before .if1 .left), ne-eqb _ _ (c .before .if2 .left), ne-eqb _ _ (c .if3 .left))))

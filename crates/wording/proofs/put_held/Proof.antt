@@ -12,7 +12,10 @@ put-held-spec =
     (λ c. search needs)
     (λ c κs. search needs)
     (λ c. search needs)
+    (λ c κs. search needs)
+    (λ c. search needs)
     (λ c.
-    let after = c .before .before in
+    let refused = c .before .before in
+    let after = refused .before .before .before .before .before in
     let before = after .before .before .before .before .before in
-    spelt-two (before .phrase .ensures) (after .phrase2 .ensures)))
+    spelt-two (before .phrase .ensures) (spelt-two (after .phrase2 .ensures) (refused .phrase3 .ensures))))

@@ -9,19 +9,16 @@ unfolding rangeLine
 write-range-spec =
     tie.close
     (tie.spec
+    (λ c κs. search needs)
+    (λ c κs. search needs)
+    (λ c κs. search needs)
     (λ c. search needs)
-    (λ c κs. search needs)
-    (λ c κs. tt)
-    (λ c. search needs)
-    (λ c κs. search needs)
-    (λ c κs. search needs)
     (λ c κs. search needs)
     (λ c. search needs)
     (λ c.
-    let doubt = c .before .before in
-    let range = doubt .before .before .before .before in
-    let n = range .before .before .before .before in
-    let from = n .before .before .before .before .before .before in
-    (spelt-two (from .word .ensures)
-    (spelt-two (rw (n .before .before .next .ensures) at (n .phrase .ensures))
-    (spelt-two (range .put-range-word .ensures) (doubt .put-doubt .ensures)))) .pushed))
+    let because = c .before .before in
+    let sign = because .before .before .before .before in
+    let range = sign .before .before .before .before in
+    let from = range .before .before .before .before in
+    (spelt-two (from .put-from .ensures)
+    (spelt-two (range .put-range-word .ensures) (spelt-two (sign .put-doubt-sign .ensures) (because .put-because .ensures)))) .pushed))

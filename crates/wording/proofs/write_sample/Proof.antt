@@ -16,12 +16,14 @@ write-sample-spec =
     (λ c κs. search needs)
     (λ c κs. search needs)
     (λ c κs. search needs)
+    (λ c κs. search needs)
     (λ c. search needs)
     (λ c κs. search needs)
     (λ c. search needs)
     (λ c.
-    let lost = c .before .before in
-    let z = lost .before .before .before .before .before in
+    let back = c .before .before in
+    let lost = back .before .before .before .before .before in
+    let z = lost .before .before .before .before in
     let y = z .before .before .before .before in
     let x = y .before .before .before .before in
     let n = x .before .before .before .before in
@@ -31,4 +33,4 @@ write-sample-spec =
     (spelt-two (n .put-column .ensures)
     (spelt-two (rw (toZ-ofZ (f .x)) at (x .put-signed .ensures))
     (spelt-two (rw (toZ-ofZ (f .y)) at (y .put-signed2 .ensures))
-    (spelt-two (rw (toZ-ofZ (f .z)) at (z .put-signed3 .ensures)) (lost .phrase .ensures)))))) .pushed))
+    (spelt-two (rw (toZ-ofZ (f .z)) at (z .put-signed3 .ensures)) (spelt-two (lost .put-column2 .ensures) (back .phrase .ensures))))))) .pushed))

@@ -23,10 +23,11 @@ write-totals-spec =
     (λ c.
     let held = c .before .before in
     let counts = held .before .before .before .before in
+    let between = counts .before .before .since .ensures in
     let upto = counts .before .before .before .before .before in
     let from = upto .before .before .before .before .before in
     let records = from .before .before .before .before .before .before in
     (spelt-two (records .word .ensures)
     (spelt-two (rw (from .before .before .next .ensures) at (from .phrase .ensures))
     (spelt-two (upto .phrase2 .ensures)
-    (spelt-two (rw (counts .before .since .ensures) at (counts .put-totals-text .ensures)) (held .put-held .ensures))))) .pushed))
+    (spelt-two (rw between at (counts .put-totals-text .ensures)) (rw between at (held .put-held .ensures)))))) .pushed))

@@ -6,4 +6,5 @@ first-spec =
     tie.close
     (tie.spec
     (λ c κs. tt)
-    (λ c. simp (c .none .ensures)))
+    (λ c κs. tt)
+    (λ c. simp (c .none2 .ensures, c .before .none .ensures)))

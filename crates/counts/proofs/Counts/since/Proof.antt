@@ -10,8 +10,10 @@ since-spec =
     (λ c κs. tt)
     (λ c κs. tt)
     (λ c κs. tt)
+    (λ c κs. tt)
     (λ c.
-    let cleared = c .before in
+    let refused = c .before in
+    let cleared = refused .before in
     let lost = cleared .before in
     let taken = lost .before in
-    simp (c .less-by5 .ensures, cleared .less-by4 .ensures, lost .less-by3 .ensures, taken .less-by2 .ensures, taken .before .less-by .ensures)))
+    simp (c .less-by6 .ensures, refused .less-by5 .ensures, cleared .less-by4 .ensures, lost .less-by3 .ensures, taken .less-by2 .ensures, taken .before .less-by .ensures)))

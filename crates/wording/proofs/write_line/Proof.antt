@@ -1,0 +1,58 @@
+use native.Mathlib.Omega.{arith}
+use borrow.Author.Needs.{needs}
+use Rattle.text.proofs.Texts.{pushed-none}
+use Rattle.wording.proofs.write_line.Statement.{statement}
+use Rattle.wording.proofs.write_line.Tie as tie
+
+pub write-line-spec : {M : Type 1} → statement M
+write-line-spec =
+    tie.close
+    (tie.spec
+    (λ c. search needs)
+    (λ c. search needs)
+    (λ c κs. search needs)
+    (λ c. search needs)
+    (λ c κs. search needs)
+    (λ c. search needs)
+    (λ c κs. search needs)
+    (λ c. search needs)
+    (λ c κs. search needs)
+    (λ c. search needs)
+    (λ c κs. search needs)
+    (λ c. search needs)
+    (λ c κs. search needs)
+    (λ c. search needs)
+    (λ c κs. search needs)
+    (λ c. search needs)
+    (λ c. search needs)
+    (λ c κs. search needs)
+    (λ c. search needs)
+    (λ c. search needs)
+    (λ c κs. search needs)
+    (λ c. search needs)
+    (λ c κs. search needs)
+    (λ c. search needs)
+    (λ c κs. search needs)
+    (λ c. rw (c .enum-told .given .1) (pushed-none _ _ (omega arith)))
+    (λ c. search needs)
+    (λ c. let put = c .before .before in rw (put .before .before .before .line .given .1) (put .write-stretch .ensures))
+    (λ c. search needs)
+    (λ c. let put = c .before .before in rw (put .before .before .before .line2 .given .1) (put .write-moded .ensures))
+    (λ c. search needs)
+    (λ c. let put = c .before .before in rw (put .before .before .before .line3 .given .1) (put .write-last .ensures))
+    (λ c. search needs)
+    (λ c. let put = c .before .before in rw (put .before .before .before .line4 .given .1) (put .write-range .ensures))
+    (λ c. search needs)
+    (λ c. let put = c .before .before in rw (put .before .before .before .line5 .given .1) (put .write-mode .ensures))
+    (λ c. search needs)
+    (λ c. let put = c .before .before in rw (put .before .before .before .line6 .given .1) (put .write-refused .ensures))
+    (λ c. search needs)
+    (λ c. let put = c .before .before in rw (put .before .before .before .line7 .given .1) (put .write-totals .ensures))
+    (λ c. search needs)
+    (λ c. let put = c .before .before in rw (put .before .before .before .enum-told2 .given .1) (put .word .ensures .pushed))
+    (λ c. search needs)
+    (λ c. let put = c .before .before in rw (put .before .before .before .enum-told3 .given .1) (put .word2 .ensures .pushed))
+    (λ c. search needs)
+    (λ c. let put = c .before .before in rw (put .before .before .before .line8 .given .1) (put .write-short .ensures))
+    (λ c. search needs)
+    (λ c. let put = c .before .before in rw (put .before .before .before .line9 .given .1) (put .write-over .ensures)))
