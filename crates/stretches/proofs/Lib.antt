@@ -1,3 +1,5 @@
 pub mod Histories
 pub mod Stretches
 pub mod Ranges
+pub mod Lost
+pub mod Modes

@@ -7,7 +7,7 @@ use mathlib.Core.List.{List, [], _∷_}
 use mathlib.Core.Path.{_≡_, refl, sym, ap, _∙_}
 use lib.Dec.{eqb}
 use borrow.Author.Tests.{eqb-false, ne-eqb}
-use Rattle.laws.specs.Choice.{pick, both}
+use Rattle.laws.specs.Choice.{pick, both, either}
 use Rattle.codes.specs.Addresses.{rangeAt}
 use Rattle.codes.specs.Range.{rangeOf, isReservedRange}
 use Rattle.table.specs.Rows.{rowAt, merged}
@@ -19,7 +19,7 @@ use Rattle.rules.specs.Proper.{isStored}
 use Rattle.rules.proofs.Registers as registers
 use Rattle.rules.proofs.Writes.{byte-written}
 use Rattle.counts.specs.Counts.{ends}
-use Rattle.stretches.specs.Histories.{accountOf, doubtOf, whyAt, lastEnd}
+use Rattle.stretches.specs.Histories.{accountOf, doubtOf, whyAt, isOfRange, lastEnd}
 use Rattle.counts.specs.declared.Account.{Account}
 use Rattle.counts.specs.declared.Why.the-variants as why
 
@@ -30,7 +30,7 @@ range-known es = registers.range-known es
 -- ---- what leaves the range as it is
 -- two accounts have the same range, and doubt it alike
 abbrev pub SameRange : Account → Account → Type 0
-SameRange a b = (a .range ≡ b .range) × (a .doubt ≡ b .doubt)
+SameRange a b = (a .range ≡ b .range) × (a .doubts .range ≡ b .doubts .range)
 
 -- a write that ends no stretch is no soft reset, and not to 0x0F
 not-ending : (a byte : ℕ) → ends (whyAt (write a byte)) ≡ false → (isReset a byte ≡ false) × (eqb a rangeAt ≡ false)
@@ -53,16 +53,34 @@ other-stored es a byte r s =
     go true = refl
     go false = refl
 
-pub range-stays : (e : Event) (es : List Event) → ends (whyAt e) ≡ false → SameRange (accountOf (e ∷ es)) (accountOf es)
-unfolding whyAt doubtOf bank
-range-stays powerUp es h = (cc, cc)
-range-stays (write a byte) es h =
-    let n = not-ending a byte h in
+neither : (r s : Bool) → either r s ≡ false → (r ≡ false) × (s ≡ false)
+neither true s h = (cc, cc)
+neither false s h = (refl, h)
+
+-- what has nothing to do with the range leaves it, and what is doubted of it, as it is
+pub range-kept : (e : Event) (es : List Event) → isOfRange e ≡ false → SameRange (accountOf (e ∷ es)) (accountOf es)
+unfolding doubtOf bank
+range-kept powerUp es h = (cc, cc)
+range-kept (write a byte) es h =
+    let n = neither (isReset a byte) (eqb a rangeAt) h in
     (ap rangeOf (other-stored es a byte (n .0) (n .1)), rw (n .0, n .1))
-range-stays (read a n) es h = (refl, refl)
-range-stays (sample x y z temperature) es h = (refl, refl)
-range-stays cycle es h = (refl, refl)
-range-stays (clock us) es h = (refl, refl)
+range-kept (read a n) es h = (refl, refl)
+range-kept (sample x y z temperature) es h = (refl, refl)
+range-kept cycle es h = (refl, refl)
+range-kept (clock us) es h = (refl, refl)
+
+-- what ends no stretch has nothing to do with it
+no-range : (e : Event) → ends (whyAt e) ≡ false → isOfRange e ≡ false
+unfolding whyAt
+no-range powerUp h = cc
+no-range (write a byte) h = let n = not-ending a byte h in rw (n .0, n .1)
+no-range (read a n) h = refl
+no-range (sample x y z temperature) h = refl
+no-range cycle h = refl
+no-range (clock us) h = refl
+
+pub range-stays : (e : Event) (es : List Event) → ends (whyAt e) ≡ false → SameRange (accountOf (e ∷ es)) (accountOf es)
+range-stays e es h = range-kept e es (no-range e h)
 
 -- since the last end of a stretch the range is what it was there
 pub range-lasts : (es : List Event) → SameRange (accountOf es) (accountOf (lastEnd es))

@@ -117,6 +117,7 @@ sums ss h k b = λ i. record {
   lost = telescope (λ es. countsOf es .lost) (λ later earlier. grows later earlier .lost) ss h k b .1 i;
   cleared = telescope (λ es. countsOf es .cleared) (λ later earlier. grows later earlier .cleared) ss h k b .1 i;
   refused = telescope (λ es. countsOf es .refused) (λ later earlier. grows later earlier .refused) ss h k b .1 i;
+  readouts = telescope (λ es. countsOf es .readouts) (λ later earlier. grows later earlier .readouts) ss h k b .1 i;
 }
 
 -- ---- each of them

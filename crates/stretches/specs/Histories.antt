@@ -2,26 +2,30 @@
 use Prim.Native.Nat.{ℕ, suc, _+_, _-_, _≤_}
 use mathlib.Core.Bool.{Bool, false, not}
 use mathlib.Core.List.{List, [], _∷_, _++_}
+use mathlib.Core.Option.{some}
 use mathlib.Core.Path.{_≡_}
 use lib.Dec.{eqb}
-use lib.ListN.{length}
+use lib.ListN.{length, getElem?}
 use Rattle.laws.specs.Bits.{worth}
 use Rattle.laws.specs.Choice.{pick, either}
-use Rattle.codes.specs.Addresses.{rangeAt}
+use Rattle.codes.specs.Addresses.{rangeAt, controlAt}
+use Rattle.codes.specs.Mode.{modeOf, isReservedMode}
 use Rattle.codes.specs.Range.{rangeOf, isReservedRange}
 use Rattle.registers.specs.Answers.{accepted}
 use Rattle.registers.specs.Deeds.{isReset}
-use Rattle.device.specs.Show.{heldIn, rangeIn}
+use Rattle.device.specs.Show.{heldIn, rangeIn, modeIn}
 use Rattle.events.specs.Bank.{stored}
 use Rattle.events.specs.Event.{Event, powerUp, write, read, sample, cycle, clock, happens}
 use Rattle.events.specs.Run.{after}
 use Rattle.events.specs.Views.{isPowerUp, atWrite, atRead}
-use Rattle.history.specs.History.{accelerometer, readsOut}
+use Rattle.fifo.specs.Ledger.{Mark, held, lost}
+use Rattle.history.specs.History.{accelerometer, readsOut, control}
 use Rattle.history.specs.Whole.{heldNow, totals}
 use Rattle.counts.specs.declared.Account.{Account}
 use Rattle.counts.specs.declared.Counts.{Counts}
 use Rattle.counts.specs.declared.Doubt.{Doubt}
 use Rattle.counts.specs.declared.Doubt.the-variants.{No, By}
+use Rattle.counts.specs.declared.Doubts.{Doubts}
 use Rattle.counts.specs.declared.Why.{Why}
 use Rattle.counts.specs.declared.Why.the-variants as why
 use Rattle.counts.specs.Counts.{ends, firstAccount}
@@ -32,33 +36,63 @@ unfoldable pub refusals : List Event → ℕ
 refusals [] = 0
 refusals (e ∷ es) = worth 1 (not (accepted (happens (after es) e .answer))) + refusals es
 
+-- how many readouts came
+unfoldable pub readoutsIn : List Event → ℕ
+readoutsIn [] = 0
+readoutsIn (e ∷ es) = worth 1 (atRead false readsOut e) + readoutsIn es
+
 -- the counts since power-up: those of the samples are demand 3's, over clears
 abbrev pub countsOf : List Event → Counts
 countsOf es =
     let n = totals accelerometer es in
-    record { accepted = n .accepted; taken = n .taken; lost = n .lost; cleared = n .clearedAway; refused = refusals es }
+    record {
+      accepted = n .accepted;
+      taken = n .taken;
+      lost = n .lost;
+      cleared = n .clearedAway;
+      refused = refusals es;
+      readouts = readoutsIn es;
+    }
 
--- the range is in doubt while the last write to 0x0F since power-up or soft reset was a refused one, of a code that the sheet does not
--- define: the number of that event, and its byte
-unfoldable pub doubtOf : List Event → Doubt
-doubtOf [] = No
-doubtOf (powerUp ∷ es) = No
-doubtOf (write a byte ∷ es) =
-    pick (isReset a byte) No (pick (eqb a rangeAt) (pick (isReservedRange (rangeOf byte)) (By (suc (length es)) byte) No) (doubtOf es))
-doubtOf (read a n ∷ es) = doubtOf es
-doubtOf (sample x y z temperature ∷ es) = doubtOf es
-doubtOf (cycle ∷ es) = doubtOf es
-doubtOf (clock us ∷ es) = doubtOf es
+-- what the register at an address sets is in doubt while the last write to it since power-up or soft reset was a refused one, of a code
+-- that the sheet does not define: the number of that event, and its byte
+unfoldable pub doubtOf : ℕ → (ℕ → Bool) → List Event → Doubt
+doubtOf about undefined [] = No
+doubtOf about undefined (powerUp ∷ es) = No
+doubtOf about undefined (write a byte ∷ es) =
+    pick (isReset a byte) No
+    (pick (eqb a about) (pick (undefined byte) (By (suc (length es)) byte) No) (doubtOf about undefined es))
+doubtOf about undefined (read a n ∷ es) = doubtOf about undefined es
+doubtOf about undefined (sample x y z temperature ∷ es) = doubtOf about undefined es
+doubtOf about undefined (cycle ∷ es) = doubtOf about undefined es
+doubtOf about undefined (clock us ∷ es) = doubtOf about undefined es
 
--- what is known after a history: the range is by the byte that 0x0F stores, and the frames held are the ledger's
+-- of the range, at 0x0F: "every other low nibble is refused 2"; of the mode, at 0x3E: "11 is refused 2"
+abbrev pub noRange : ℕ → Bool
+noRange byte = isReservedRange (rangeOf byte)
+
+abbrev pub noMode : ℕ → Bool
+noMode byte = isReservedMode (modeOf byte)
+
+abbrev pub doubtsOf : List Event → Doubts
+doubtsOf es = record { range = doubtOf rangeAt noRange es; mode = doubtOf controlAt noMode es }
+
+-- what is known after a history: the range is by the byte that 0x0F stores, the mode by that of 0x3E since the last clear, and the frames
+-- held are the ledger's
 abbrev pub accountOf : List Event → Account
-accountOf es =
-    record { number = length es; counts = countsOf es; doubt = doubtOf es; range = rangeOf (stored es rangeAt); held = heldNow accelerometer es }
+accountOf es = record {
+  number = length es;
+  counts = countsOf es;
+  doubts = doubtsOf es;
+  range = rangeOf (stored es rangeAt);
+  mode = modeOf (control es);
+  held = heldNow accelerometer es;
+}
 
 -- the account that is stepped with the device, one event at a time
 unfoldable pub stepped : List Event → Account
 stepped [] = firstAccount
-stepped (e ∷ es) = accountAfter (stepped es) e (happens (after es) e .answer) (rangeIn (after (e ∷ es))) (heldIn (after (e ∷ es)))
+stepped (e ∷ es) = accountAfter (stepped es) e (happens (after es) e .answer) (rangeIn (after (e ∷ es))) (modeIn (after (e ∷ es))) (heldIn (after (e ∷ es)))
 
 -- why a stretch ends with an event: "a readout: an accepted read at 0x3F; a write to 0x0F, accepted or refused; a soft reset"
 unfoldable pub whyAt : Event → Why
@@ -74,7 +108,11 @@ whyAt (clock us) = why.Nothing
 abbrev pub isOfRange : Event → Bool
 isOfRange e = either (isPowerUp e) (atWrite false (λ a byte. either (isReset a byte) (eqb a rangeAt)) e)
 
--- what ends a stretch: that, and a readout
+-- what has to do with the mode: a write to 0x3E, accepted or refused; a soft reset
+abbrev pub isOfMode : Event → Bool
+isOfMode e = either (isPowerUp e) (atWrite false (λ a byte. either (isReset a byte) (eqb a controlAt)) e)
+
+-- what ends a stretch: what has to do with the range, and a readout
 abbrev pub isEnd : Event → Bool
 isEnd e = either (atRead false readsOut e) (isOfRange e)
 
@@ -114,6 +152,7 @@ pub record Grown (from to : Counts) : Type 0 where
   pub lost : from .lost ≤ to .lost
   pub cleared : from .cleared ≤ to .cleared
   pub refused : from .refused ≤ to .refused
+  pub readouts : from .readouts ≤ to .readouts
 
 -- what was counted from one to the other, where it is no less
 abbrev pub apart : Counts → Counts → Counts
@@ -123,6 +162,7 @@ apart from to = record {
   lost = to .lost - from .lost;
   cleared = to .cleared - from .cleared;
   refused = to .refused - from .refused;
+  readouts = to .readouts - from .readouts;
 }
 
 -- ---- stretches one after the other
@@ -164,4 +204,13 @@ together ss = record {
   lost = over (λ s. inside s .lost) ss;
   cleared = over (λ s. inside s .cleared) ss;
   refused = over (λ s. inside s .refused) ss;
+  readouts = over (λ s. inside s .readouts) ss;
 }
+
+-- ---- which sample an arrival loses
+-- of a newcomer's frame, and what became of each sample accepted since the last clear before it came and behind it, the latest first: with
+-- the newcomer held in front of the others, the sample at `back` was held, and behind the arrival it is lost
+pub record LostAt (newcomer : List ℕ) (before behind : List (Mark (List ℕ))) (back : ℕ) : Type 0 where
+  pub frame : List ℕ
+  pub was : getElem? (held newcomer ∷ before) back ≡ some (held frame)
+  pub is : getElem? behind back ≡ some (lost frame)

@@ -9,63 +9,96 @@ use native.Mathlib.Nat.{sub-zero}
 use native.Mathlib.Omega.{arith}
 use lib.Dec.{eqb}
 use lib.ListN.{length, length-append}
-use borrow.Author.Tests.{eqb-true, eqb-false}
+use borrow.Author.Tests.{eqb-true}
 use Rattle.laws.specs.Choice.{pick}
+use Rattle.laws.proofs.Finite.{of-pick}
 use Rattle.events.specs.Event.{Event}
 use Rattle.history.specs.Whole.{totals}
 use Rattle.counts.specs.Counts.{ends}
-use Rattle.stretches.specs.Histories.{accountOf, countsOf, refusals, whyAt, lastEnd, Stretch, stretches, unended, Conserved, apart, Part, Between, Each, over, inside, together}
+use Rattle.stretches.specs.Histories.{accountOf, countsOf, refusals, readoutsIn, whyAt, lastEnd, Stretch, stretches, unended, Conserved, apart, Part, Between, Each, over, inside, together}
+use Rattle.counts.specs.declared.Account.{Account}
 use Rattle.counts.specs.declared.Counts.{Counts}
+use Rattle.counts.specs.declared.Why.{Why}
 use Rattle.counts.specs.declared.Why.the-variants.{Nothing}
-use Rattle.stretches.proofs.Ranges.{SameRange, range-stays, range-lasts}
+use Rattle.stretches.proofs.Ranges.{SameRange, range-lasts}
 use Rattle.stretches.proofs.Stretches.{lastEnd-part, stretches-lead, all-lead, sums, each-conserves, each-differs}
-use Rattle.wording.specs.Wording.{stretchLine, lastLine}
+use Rattle.wording.specs.Wording.{stretchLine, modedLine, lastLine, lineText}
+use Rattle.wording.specs.declared.Line.the-variants as line
+use Rattle.answers.specs.Answer.{stretchOf, endedOf, restText}
 use Rattle.told.specs.Histories.{toldOf, endOf}
-use Rattle.told.specs.Plain.{allOf, before, lineOf, linesFor, columnsOf, addedUp}
-use Rattle.answers.specs.declared.Asked.the-variants.{Stretches}
+use Rattle.told.specs.Plain.{allOf, seenAt, lineOf, linesFor, restOf, columnsOf, addedUp}
+use Rattle.answers.specs.declared.Asked.{Asked}
+use Rattle.answers.specs.declared.Asked.the-variants.{Stretches, Modes}
 
 -- ---- the lines
+-- a line that is chosen, with its mode or without
+moded-line : (moded : Bool) (from before behind : Account) (w : Why)
+    → lineText (stretchOf moded from before behind w) ≡ pick moded (modedLine from before behind w) (stretchLine from before behind w)
+moded-line moded from before behind w = of-pick lineText moded (line.Moded from before behind w) (line.Stretch from before behind w)
+
+-- of a stretch that an event ends, where it does
+pub ended-line : (moded : Bool) (e : Event) (es : List Event)
+    → lineText (endedOf moded (accountOf (lastEnd es)) (accountOf es) (accountOf (e ∷ es)) (whyAt e))
+    ≡ pick (ends (whyAt e)) (lineOf moded (record { from = lastEnd es; to = e ∷ es; why = whyAt e })) []
+ended-line moded e es = go (ends (whyAt e)) refl
+  where
+    go : (t : Bool) → ends (whyAt e) ≡ t
+        → lineText (pick t (stretchOf moded (accountOf (lastEnd es)) (accountOf es) (accountOf (e ∷ es)) (whyAt e)) line.Nothing)
+        ≡ pick t (lineOf moded (record { from = lastEnd es; to = e ∷ es; why = whyAt e })) []
+    go true q = moded-line moded (accountOf (lastEnd es)) (accountOf es) (accountOf (e ∷ es)) (whyAt e) ∙ rw q
+    go false q = refl
+
+-- where the stretches are asked for, with their modes or without
+abbrev pub form : Bool → Asked
+form true = Modes
+form false = Stretches
+
+ended-text : (moded : Bool) (e : Event) (es : List Event) → toldOf (form moded) (e ∷ es)
+    ≡ toldOf (form moded) es ++ pick (ends (whyAt e)) (lineOf moded (record { from = lastEnd es; to = e ∷ es; why = whyAt e })) []
+unfolding toldOf
+ended-text true e es = ap (λ l. toldOf Modes es ++ l) (ended-line true e es)
+ended-text false e es = ap (λ l. toldOf Stretches es ++ l) (ended-line false e es)
+
 -- of those that have ended
-pub stretches-told : (es : List Event) → toldOf Stretches es ≡ linesFor (stretches es)
-unfolding toldOf stretches
-stretches-told [] = refl
-stretches-told (e ∷ es) = rw (stretches-told es) (go (ends (whyAt e)))
-  where
-    line : List ℕ
-    line = stretchLine (accountOf (lastEnd es)) (accountOf es) (accountOf (e ∷ es)) (whyAt e)
+no-events : (moded : Bool) → toldOf (form moded) [] ≡ []
+unfolding toldOf
+no-events true = refl
+no-events false = refl
 
-    go : (t : Bool) → linesFor (stretches es) ++ pick t line [] ≡ linesFor (pick t (record { from = lastEnd es; to = e ∷ es; why = whyAt e } ∷ stretches es) (stretches es))
+pub stretches-told : (moded : Bool) (es : List Event) → toldOf (form moded) es ≡ linesFor moded (stretches es)
+unfolding stretches
+stretches-told moded [] = no-events moded
+stretches-told moded (e ∷ es) = ended-text moded e es ∙ rw (stretches-told moded es) (go (ends (whyAt e)))
+  where
+    new : Stretch
+    new = record { from = lastEnd es; to = e ∷ es; why = whyAt e }
+
+    go : (t : Bool) → linesFor moded (stretches es) ++ pick t (lineOf moded new) [] ≡ linesFor moded (pick t (new ∷ stretches es) (stretches es))
     go true = refl
-    go false = append-nil (linesFor (stretches es))
+    go false = append-nil (linesFor moded (stretches es))
 
--- where records are left, the last of them ends no stretch
-no-end : (e : Event) (es : List Event) → eqb (length (lastEnd (e ∷ es))) (length (e ∷ es)) ≡ false → ends (whyAt e) ≡ false
-unfolding lastEnd
-no-end e es = go (ends (whyAt e))
-  where
-    go : (t : Bool) → eqb (length (pick t (e ∷ es) (lastEnd es))) (length (e ∷ es)) ≡ false → t ≡ false
-    go true h = let n = length (e ∷ es) in absurd (eqb-false n n h refl)
-    go false h = refl
-
--- so that it leaves the range as it is
-pub rest-line : (es : List Event) → eqb (length (lastEnd es)) (length es) ≡ false → stretchLine (accountOf (lastEnd es)) (accountOf es) (accountOf es) Nothing ≡ lineOf (unended es)
-unfolding stretchLine
-rest-line [] h = refl
-rest-line (e ∷ es) h = let s = range-stays e es (no-end e es h) in rw (s .0, s .1)
+-- the rest, where records are left
+pub rest-line : (moded begun : Bool) (es : List Event) (refusal : ℕ)
+    → restText moded begun (accountOf (lastEnd es)) (accountOf es) refusal ≡ restOf moded es ++ lastLine begun (length es) refusal
+rest-line moded begun es refusal = rw (moded-line moded (accountOf (lastEnd es)) (accountOf es) (accountOf es) Nothing)
 
 -- of a whole log
-pub stretches-whole : (es : List Event) (begun : Bool) (refusal : ℕ)
-    → toldOf Stretches es ++ endOf Stretches begun es refusal ≡ linesFor (allOf es) ++ lastLine begun (length es) refusal
-stretches-whole es begun refusal = rw (stretches-told es) (go (eqb (length (lastEnd es)) (length es)) refl)
+pub stretches-whole : (moded : Bool) (es : List Event) (begun : Bool) (refusal : ℕ)
+    → toldOf (form moded) es ++ endOf (form moded) begun es refusal ≡ linesFor moded (allOf es) ++ lastLine begun (length es) refusal
+stretches-whole moded es begun refusal =
+    rw (stretches-told moded es, rest-of moded) (go (eqb (length (lastEnd es)) (length es)))
   where
     last : List ℕ
     last = lastLine begun (length es) refusal
 
-    go : (t : Bool) → eqb (length (lastEnd es)) (length es) ≡ t
-        → linesFor (stretches es) ++ (pick t [] (stretchLine (accountOf (lastEnd es)) (accountOf es) (accountOf es) Nothing) ++ last)
-        ≡ linesFor (pick t (stretches es) (unended es ∷ stretches es)) ++ last
-    go true p = refl
-    go false p = rw (rest-line es p) (sym (append-assoc (linesFor (stretches es)) (lineOf (unended es)) last))
+    rest-of : (m : Bool) → endOf (form m) begun es refusal ≡ restOf m es ++ last
+    rest-of true = rest-line true begun es refusal
+    rest-of false = rest-line false begun es refusal
+
+    go : (t : Bool) → linesFor moded (stretches es) ++ (pick t [] (lineOf moded (unended es)) ++ last)
+        ≡ linesFor moded (pick t (stretches es) (unended es ∷ stretches es)) ++ last
+    go true = refl
+    go false = sym (append-assoc (linesFor moded (stretches es)) (lineOf moded (unended es)) last)
 
 -- ---- where they lie
 no-later : (later h : List Event) → length h ≡ length (later ++ h) → later ++ h ≡ h
@@ -104,6 +137,7 @@ added-up-is ss e = λ i. record {
   lost = column (λ n. n .lost) i;
   cleared = column (λ n. n .cleared) i;
   refused = column (λ n. n .refused) i;
+  readouts = column (λ n. n .readouts) i;
 }
   where
     column : (f : Counts → ℕ) → over (λ s. f (columnsOf s)) ss ≡ over (λ s. f (inside s)) ss
@@ -119,7 +153,7 @@ module _ (es : List Event) where
   all-columns room = each-differs (allOf es) [] es (all-of-lead es) room
 
   pub all-add-up : length es < 2 ^ 64 → addedUp (allOf es) ≡ countsOf es
-  unfolding totals refusals
+  unfolding totals refusals readoutsIn
   all-add-up room = added-up-is (allOf es) (all-columns room) ∙ sums (allOf es) [] es (all-of-lead es) ∙ from-none
     where
       from-none : apart (countsOf []) (countsOf es) ≡ countsOf es
@@ -127,25 +161,21 @@ module _ (es : List Event) where
 
 -- the range of a line, and what is doubted of it, is what it was where the stretch began
 abbrev pub InForce : Stretch → Type 0
-InForce s = SameRange (accountOf (before (s .to))) (accountOf (s .from))
+InForce s = SameRange (accountOf (seenAt s)) (accountOf (s .from))
 
 ended-in-force : (es : List Event) → Each InForce (stretches es)
 unfolding stretches
 ended-in-force [] = tt
-ended-in-force (e ∷ es) = go (ended-in-force es) (ends (whyAt e))
+ended-in-force (e ∷ es) = go (ended-in-force es) (ends (whyAt e)) refl
   where
-    go : Each InForce (stretches es) → (t : Bool) → Each InForce (pick t (record { from = lastEnd es; to = e ∷ es; why = whyAt e } ∷ stretches es) (stretches es))
-    go earlier true = (range-lasts es, earlier)
-    go earlier false = earlier
-
-rest-in-force : (es : List Event) → eqb (length (lastEnd es)) (length es) ≡ false → InForce (unended es)
-unfolding lastEnd
-rest-in-force [] h = (refl, refl)
-rest-in-force (e ∷ es) h = rw (no-end e es h) (range-lasts es)
+    go : Each InForce (stretches es) → (t : Bool) → ends (whyAt e) ≡ t
+        → Each InForce (pick t (record { from = lastEnd es; to = e ∷ es; why = whyAt e } ∷ stretches es) (stretches es))
+    go earlier true q = (rw q (range-lasts es), earlier)
+    go earlier false q = earlier
 
 pub all-in-force : (es : List Event) → Each InForce (allOf es)
-all-in-force es = go (eqb (length (lastEnd es)) (length es)) refl
+all-in-force es = go (eqb (length (lastEnd es)) (length es))
   where
-    go : (t : Bool) → eqb (length (lastEnd es)) (length es) ≡ t → Each InForce (pick t (stretches es) (unended es ∷ stretches es))
-    go true p = ended-in-force es
-    go false p = (rest-in-force es p, ended-in-force es)
+    go : (t : Bool) → Each InForce (pick t (stretches es) (unended es ∷ stretches es))
+    go true = ended-in-force es
+    go false = (range-lasts es, ended-in-force es)

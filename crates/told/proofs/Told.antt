@@ -29,7 +29,7 @@ use Rattle.answers.specs.Answer.{start, at, recordText, markAfter, answerer, pr
 use Rattle.told.specs.Histories.{eventsAs, eventsOnto, stopAs, stopIn, markOf, toldOf, endOf, toldAs, told}
 use Rattle.answers.specs.declared.Answering.{Answering}
 use Rattle.answers.specs.declared.Asked.{Asked}
-use Rattle.answers.specs.declared.Asked.the-variants.{Stretches, Samples, Between}
+use Rattle.answers.specs.declared.Asked.the-variants.{Stretches, Modes, Samples, Between, Whole}
 
 -- ---- the mark
 -- one event more: it is the mark where it ends a stretch, or is the record from
@@ -63,19 +63,23 @@ from-marked from upto e es = go (eqb (suc (length es)) from) refl (ltb (length e
 mark-next : (asked : Asked) (e : Event) (es : List Event)
     → markAfter asked (accountOf (markOf asked es)) (accountOf (e ∷ es)) (whyAt e) ≡ accountOf (markOf asked (e ∷ es))
 mark-next Stretches e es = ends-marked e es
+mark-next Modes e es = ends-marked e es
 mark-next Samples e es = ends-marked e es
 mark-next (Between from upto) e es =
     sym (of-pick accountOf (eqb (suc (length es)) from) (e ∷ es) (markOf (Between from upto) es)) ∙ ap accountOf (from-marked from upto e es)
+mark-next Whole e es = refl
 
 no-mark : (asked : Asked) → markOf asked [] ≡ []
 unfolding lastEnd
 no-mark Stretches = refl
+no-mark Modes = refl
 no-mark Samples = refl
 no-mark (Between from upto) = go (ltb 0 from)
   where
     go : (t : Bool) → pick {A = List Event} t [] (drop (0 - from) []) ≡ []
     go true = refl
     go false = drop-nil (0 - from)
+no-mark Whole = refl
 
 -- ---- the answer's state
 -- after a history, where the version byte is past

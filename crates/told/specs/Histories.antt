@@ -18,7 +18,7 @@ use Rattle.entries.specs.Entries.{eventOf}
 use Rattle.stretches.specs.Histories.{accountOf, whyAt, lastEnd}
 use Rattle.answers.specs.Answer.{recordText, endText}
 use Rattle.answers.specs.declared.Asked.{Asked}
-use Rattle.answers.specs.declared.Asked.the-variants.{Stretches, Samples, Between}
+use Rattle.answers.specs.declared.Asked.the-variants.{Stretches, Modes, Samples, Between, Whole}
 
 -- the events of the records of a log's bytes, behind a history; k is more than the bytes' count
 abbrev pub eventsAs : Found → List Event → (List Event → List Event) → List Event
@@ -43,11 +43,13 @@ stopIn zero bytes = 0
 stopIn (suc k) bytes = stopAs (readAt bytes 0 .found) (stopIn k (drop (readAt bytes 0 .next) bytes))
 
 -- ---- what is printed of the records of a history, in order
--- the history at the mark: the end of the last stretch, or the record from
+-- the history at the mark: the end of the last stretch, the record from, or power-up
 abbrev pub markOf : Asked → List Event → List Event
 markOf Stretches es = lastEnd es
+markOf Modes es = lastEnd es
 markOf Samples es = lastEnd es
 markOf (Between from upto) es = pick (ltb (length es) from) [] (drop (length es - from) es)
+markOf Whole es = []
 
 unfoldable pub toldOf : Asked → List Event → List ℕ
 toldOf asked [] = []

@@ -1,36 +1,47 @@
 -- The same in plain words, by what was asked: the lines of the stretches and of the samples, and what is said of the records between two.
 use Prim.Native.Nat.{ℕ, suc, _-_}
+use mathlib.Core.Bool.{Bool, true}
 use mathlib.Core.List.{List, [], _∷_, _++_}
 use mathlib.Core.Path.{_≡_}
 use lib.Dec.{eqb}
 use lib.ListN.{length}
 use Rattle.laws.specs.Choice.{pick}
-use Rattle.registers.specs.Answers.{accepted}
+use Rattle.codes.specs.Mode.{modeOf}
+use Rattle.registers.specs.Answers.{accepted, number}
 use Rattle.events.specs.Event.{Event, happens}
 use Rattle.events.specs.Run.{after}
-use Rattle.events.specs.Views.{atSample}
-use Rattle.counts.specs.Counts.{differences, ends}
-use Rattle.stretches.specs.Histories.{countsOf, accountOf, whyAt, isOfRange, lastEnd, Stretch, stretches, unended, Between, over}
+use Rattle.events.specs.Views.{atWrite, atSample}
+use Rattle.history.specs.History.{accelerometer, control}
+use Rattle.history.specs.Whole.{heldNow}
+use Rattle.counts.specs.Counts.{differences, ends, isSameRange, isSameMode, backOf}
+use Rattle.stretches.specs.Histories.{countsOf, accountOf, whyAt, lastEnd, Stretch, stretches, unended, Between, over}
 use Rattle.counts.specs.declared.Counts.{Counts}
-use Rattle.wording.specs.Wording.{stretchLine, sampleLine, rangeLine}
+use Rattle.wording.specs.Wording.{stretchLine, modedLine, sampleLine, refusedLine, rangeLine, modeLine, totalsLine, lostLine, noReadoutLine}
 
 -- ---- stretches
 -- those that are printed, the latest first: those that have ended and, "only where records are left", the rest
 abbrev pub allOf : List Event → List Stretch
 allOf es = pick (eqb (length (lastEnd es)) (length es)) (stretches es) (unended es ∷ stretches es)
 
--- "RANGE in force in the stretch, before its last record acts"
+-- "RANGE in force in the stretch, before its last record acts"; of the rest, which no record ended, at its end
 abbrev pub before : List Event → List Event
 before [] = []
 before (e ∷ es) = es
 
-abbrev pub lineOf : Stretch → List ℕ
-lineOf s = stretchLine (accountOf (s .from)) (accountOf (before (s .to))) (accountOf (s .to)) (s .why)
+abbrev pub seenAt : Stretch → List Event
+seenAt s = pick (ends (s .why)) (before (s .to)) (s .to)
+
+-- with its mode, or without
+abbrev pub lineOf : Bool → Stretch → List ℕ
+lineOf moded s =
+    pick moded
+    (modedLine (accountOf (s .from)) (accountOf (seenAt s)) (accountOf (s .to)) (s .why))
+    (stretchLine (accountOf (s .from)) (accountOf (seenAt s)) (accountOf (s .to)) (s .why))
 
 -- in order
-abbrev pub linesFor : List Stretch → List ℕ
-linesFor [] = []
-linesFor (s ∷ ss) = linesFor ss ++ lineOf s
+abbrev pub linesFor : Bool → List Stretch → List ℕ
+linesFor moded [] = []
+linesFor moded (s ∷ ss) = linesFor moded ss ++ lineOf moded s
 
 -- the counts that such lines print, added up
 abbrev pub columnsOf : Stretch → Counts
@@ -43,28 +54,54 @@ addedUp ss = record {
   lost = over (λ s. columnsOf s .lost) ss;
   cleared = over (λ s. columnsOf s .cleared) ss;
   refused = over (λ s. columnsOf s .refused) ss;
+  readouts = over (λ s. columnsOf s .readouts) ss;
 }
 
 -- ---- samples
--- "of each accepted sample a line `sample N X Y Z LOST`, with how many its arrival lost"
+-- "of each accepted sample a line `sample N X Y Z LOST BACK`", with how many its arrival lost, and which (stretches/proofs/Lost)
 abbrev pub sampleOf : Event → List Event → List ℕ
 sampleOf e es =
-    atSample [] (λ x y z temperature. pick (accepted (happens (after es) e .answer)) (sampleLine (suc (length es)) x y z (countsOf (e ∷ es) .lost - countsOf es .lost)) []) e
+    let lost = countsOf (e ∷ es) .lost - countsOf es .lost in
+    let back = backOf lost (modeOf (control es)) (heldNow accelerometer es) in
+    atSample [] (λ x y z temperature. pick (accepted (happens (after es) e .answer)) (sampleLine (suc (length es)) x y z lost back) []) e
 
 -- those and the stretches' lines, in order, as their records came
 abbrev pub withSamples : List Event → List ℕ
 withSamples [] = []
-withSamples (e ∷ es) = withSamples es ++ (sampleOf e es ++ pick (ends (whyAt e)) (lineOf (record { from = lastEnd es; to = e ∷ es; why = whyAt e })) [])
+withSamples (e ∷ es) =
+    withSamples es ++ (sampleOf e es ++ pick (ends (whyAt e)) (lineOf true (record { from = lastEnd es; to = e ∷ es; why = whyAt e })) [])
 
 -- the rest's line, "only where records are left"
-abbrev pub restOf : List Event → List ℕ
-restOf es = pick (eqb (length (lastEnd es)) (length es)) [] (lineOf (unended es))
+abbrev pub restOf : Bool → List Event → List ℕ
+restOf moded es = pick (eqb (length (lastEnd es)) (length es)) [] (lineOf moded (unended es))
 
 -- ---- words: h is the history behind the record from
--- the range behind it, and behind each later event that has to do with it
-abbrev pub rangesFrom : List Event → List Event → List ℕ
-rangesFrom h [] = rangeLine (accountOf h)
-rangesFrom h (e ∷ later) = rangesFrom h later ++ pick (isOfRange e) (rangeLine (accountOf (e ∷ (later ++ h)))) []
+-- what is in force behind it
+abbrev pub inForce : List Event → List ℕ
+inForce h = rangeLine (accountOf h) ++ modeLine (accountOf h)
+
+-- "each refused write has its line"
+abbrev pub refusedBy : Event → List Event → List ℕ
+refusedBy e es =
+    let answer = happens (after es) e .answer in
+    atWrite [] (λ a byte. pick (accepted answer) [] (refusedLine (suc (length es)) byte a (number answer))) e
+
+-- the range where it, or what is doubted of it, is not what it was; and the mode
+abbrev pub changedBy : Event → List Event → List ℕ
+changedBy e es =
+    pick (isSameRange (accountOf (e ∷ es)) (accountOf es)) [] (rangeLine (accountOf (e ∷ es)))
+    ++ pick (isSameMode (accountOf (e ∷ es)) (accountOf es)) [] (modeLine (accountOf (e ∷ es)))
+
+-- what is said of the later events, in order
+abbrev pub saidFrom : List Event → List Event → List ℕ
+saidFrom h [] = inForce h
+saidFrom h (e ∷ later) = saidFrom h later ++ (refusedBy e (later ++ h) ++ changedBy e (later ++ h))
+
+-- the totals from h to k; what "lost" is about, where some were lost; and that no readout came, where none did
+abbrev pub totalsFrom : List Event → List Event → List ℕ
+totalsFrom h k =
+    let n = differences (accountOf h .counts) (accountOf k .counts) in
+    totalsLine (accountOf h) (accountOf k) ++ (pick (eqb (n .lost) 0) [] lostLine ++ pick (eqb (n .readouts) 0) noReadoutLine [])
 
 -- from a history h at which a stretch ends to a later one k: the stretches between them are those of k that h has not, and what the
 -- words print of the counts is the sum of what the stretches' lines print

@@ -1,0 +1,45 @@
+-- What the words say of the range and the mode in force: a line is told exactly where one of them, or what is doubted of it, is not what it
+-- was, which only an event can do that has to do with it; and the frames that are said are those that the FIFO can hold.
+-- Assumes nothing.
+use Prim.Native.Nat.{ℕ}
+use mathlib.Core.Bool.{true, false}
+use mathlib.Core.List.{List, _∷_, _++_}
+use mathlib.Core.Path.{_≡_, refl}
+use lib.Dec.{eqb}
+use Rattle.laws.specs.Choice.{pick}
+use Rattle.codes.specs.Mode.{modeOf, isReservedMode}
+use Rattle.codes.specs.declared.Mode.{Mode}
+use Rattle.codes.specs.declared.Mode.the-variants.{Bypass, Fifo, Stream, Reserved}
+use Rattle.fifo.specs.Setting.{depthIn}
+use Rattle.device.specs.Device.{depth}
+use Rattle.events.specs.Event.{Event}
+use Rattle.history.specs.History.{control, setting}
+use Rattle.text.specs.Text.{ascii, decimal, lastDigits}
+use Rattle.wording.specs.Wording.{framesWord}
+use Rattle.counts.specs.Counts.{isSameRange, isSameMode}
+use Rattle.counts.proofs.Same.{same-range-is, same-mode-is}
+use Rattle.stretches.specs.Histories.{accountOf, isOfRange, isOfMode}
+use Rattle.stretches.proofs.Modes.{mode-known, mode-stays}
+use Rattle.stretches.proofs.Ranges.{range-kept}
+
+-- no line is told behind an event that has nothing to do with it
+pub range-untold : (e : Event) (es : List Event) → isOfRange e ≡ false → isSameRange (accountOf (e ∷ es)) (accountOf es) ≡ true
+range-untold e es h = same-range-is (accountOf (e ∷ es)) (accountOf es) .1 (range-kept e es h)
+
+pub mode-untold : (e : Event) (es : List Event) → isOfMode e ≡ false → isSameMode (accountOf (e ∷ es)) (accountOf es) ≡ true
+mode-untold e es h = same-mode-is (accountOf (e ∷ es)) (accountOf es) .1 (mode-stays e es h)
+
+-- ---- how deep the FIFO is
+-- "Depth is 32 in FIFO and STREAM, 1 in BYPASS": so many frames, in words
+abbrev pub framesFor : ℕ → List ℕ
+framesFor n = ascii ", " ++ (decimal n ++ pick (eqb n 1) (ascii " frame") (ascii " frames"))
+
+deep-said : (m : Mode) → isReservedMode m ≡ false → framesWord m ≡ framesFor (depthIn depth m)
+unfolding decimal lastDigits
+deep-said Bypass h = refl
+deep-said Fifo h = refl
+deep-said Stream h = refl
+deep-said Reserved h = cc
+
+pub frames-said : (es : List Event) → framesWord (accountOf es .mode) ≡ framesFor (setting es .depth)
+frames-said es = deep-said (modeOf (control es)) (mode-known es)
