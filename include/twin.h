@@ -1,4 +1,5 @@
-/* The twin of the BMA253 and BMA255 accelerometers, for firmware and harnesses in C99 or C++11 and later. Link libtwin.a (x86-64).
+/* The twin of the BMA253 and BMA255 accelerometers, for firmware and harnesses in C99 or C++11 and later. Link libtwin.a or libtwin.so.4
+ * (x86-64).
  *
  *     static struct twin chip;
  *     uint8_t id;
@@ -17,15 +18,21 @@
 #include <stdbool.h>
 #include <stddef.h>
 #include <stdint.h>
-#include <string.h>
+#if __STDC_HOSTED__
+#include <string.h> /* for the caller: memcpy copies a chip */
+#endif
 
 /* The version of this header and of the library beside it: the last number moves where no name does, the middle one where names are
- * added, the first where a caller may have to be changed. Since 4 there is a clock: twin_event takes microseconds, and 0x21 takes a latch
- * time. Since 3 the watermark stays 1 above its level; 2 showed it at the level alone. */
+ * added, the first where a caller may have to be changed. The first is in the library's symbols, so that what was compiled with a header
+ * of another one does not link.
+ *
+ * Since 4.1 the symbols have it, and the library itself looks at what it is handed, also for a caller without this header; there is a
+ * shared library. In 4.0 this header looked: what was compiled with it is compiled anew, as it is. Since 4 there is a clock: twin_event
+ * takes microseconds, and 0x21 takes a latch time. Since 3 the watermark stays 1 above its level; 2 showed it at the level alone. */
 #define TWIN_VERSION_MAJOR 4
-#define TWIN_VERSION_MINOR 0
+#define TWIN_VERSION_MINOR 1
 #define TWIN_VERSION_PATCH 0
-#define TWIN_VERSION "4.0.0"
+#define TWIN_VERSION "4.1.0"
 
 #ifdef __cplusplus
 extern "C" {
@@ -67,15 +74,32 @@ struct twin {
     uint64_t room[TWIN_ROOM / 8];
 };
 
-/* ---- the library. Its functions are proved for every record and every buffer, but they cannot tell a pointer to nothing. So the
- * header stands in front of the last three: below, their names are given to functions that look first. */
+/* ---- the library. Its five functions have the major version in their symbols: twin_event is twin_4_event there. */
+#define TWIN_JOINED(first, major, name) first##major##name
+#define TWIN_SYMBOL(major, name) TWIN_JOINED(twin_, major, name)
+#define twin_size TWIN_SYMBOL(TWIN_VERSION_MAJOR, _size)
+#define twin_alignment TWIN_SYMBOL(TWIN_VERSION_MAJOR, _alignment)
+#define twin_power_up TWIN_SYMBOL(TWIN_VERSION_MAJOR, _power_up)
+#define twin_event TWIN_SYMBOL(TWIN_VERSION_MAJOR, _event)
+#define twin_pins TWIN_SYMBOL(TWIN_VERSION_MAJOR, _pins)
 
 size_t twin_size(void);      /* the bytes of the library's record, at most TWIN_ROOM */
 size_t twin_alignment(void); /* what its address is a multiple of */
-void twin_power_up(struct twin *twin);
+
+/* The record becomes that of a chip at power-up, whatever it held: no byte of it stays as it was. Answers TWIN_DONE; or TWIN_NOT_POWERED
+ * for NULL; or TWIN_MISFIT, and leaves zeros, which every function refuses. */
+uint8_t twin_power_up(struct twin *twin);
+
+/* One event: TWIN_WRITE (address, byte), TWIN_READ (address; length bytes into buffer), TWIN_SAMPLE (x, y, z; byte is the temperature),
+ * TWIN_CYCLE or TWIN_CLOCK (microseconds). What the kind does not name does not matter, but the buffer is looked at for every kind: NULL
+ * needs length 0. */
 uint8_t twin_event(struct twin *twin, uint8_t kind, uint8_t address, uint8_t byte, int16_t x, int16_t y, int16_t z, uint8_t *buffer,
                    size_t length, uint32_t microseconds);
+
+/* Both pin levels, that of INT1 plus 4 times that of INT2, or TWIN_NOT_POWERED. Changes nothing. */
 uint8_t twin_pins(const struct twin *twin);
+
+/* ---- what the library looks at first */
 
 /* Whether it was powered up: the library's record begins with register 0x00, which never changes. A record that was left as the memory
  * was, not zeroed, may begin with that byte by chance. */
@@ -92,36 +116,7 @@ static inline bool twin_is_bad_buffer(const struct twin *twin, const uint8_t *bu
     return start < record ? record - start < length : start - record < TWIN_ROOM;
 }
 
-/* ---- functions for every caller */
-
-/* The record becomes that of a chip at power-up, whatever it held: no byte of it stays as it was. Answers TWIN_DONE; or TWIN_NOT_POWERED
- * for NULL; or TWIN_MISFIT, and leaves zeros, which every function refuses. */
-static inline uint8_t twin_checked_power_up(struct twin *twin) {
-    if (twin == NULL) return TWIN_NOT_POWERED;
-    memset(twin, 0, sizeof *twin);
-    if (twin_size() > sizeof *twin || (uintptr_t)twin % twin_alignment() != 0) return TWIN_MISFIT;
-    twin_power_up(twin);
-    return TWIN_DONE;
-}
-#define twin_power_up twin_checked_power_up
-
-/* One event: TWIN_WRITE (address, byte), TWIN_READ (address; length bytes into buffer), TWIN_SAMPLE (x, y, z; byte is the temperature),
- * TWIN_CYCLE or TWIN_CLOCK (microseconds). What the kind does not name does not matter, but the buffer is looked at for every kind: NULL
- * needs length 0. */
-static inline uint8_t twin_checked_event(struct twin *twin, uint8_t kind, uint8_t address, uint8_t byte, int16_t x, int16_t y, int16_t z,
-                                         uint8_t *buffer, size_t length, uint32_t microseconds) {
-    uint8_t none = 0;
-    if (!twin_is_powered(twin)) return TWIN_NOT_POWERED;
-    if (twin_is_bad_buffer(twin, buffer, length)) return TWIN_BAD_BUFFER;
-    return twin_event(twin, kind, address, byte, x, y, z, buffer == NULL ? &none : buffer, length, microseconds);
-}
-#define twin_event twin_checked_event
-
-/* Both pin levels, that of INT1 plus 4 times that of INT2, or TWIN_NOT_POWERED. Changes nothing. */
-static inline uint8_t twin_checked_pins(const struct twin *twin) {
-    return twin_is_powered(twin) ? twin_pins(twin) : (uint8_t)TWIN_NOT_POWERED;
-}
-#define twin_pins twin_checked_pins
+/* ---- the events, one function each */
 
 /* A register write. */
 static inline uint8_t twin_write(struct twin *twin, uint8_t address, uint8_t byte) {

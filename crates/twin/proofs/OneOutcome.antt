@@ -9,11 +9,11 @@ use Rattle.laws.specs.Outcome.{Settled}
 use Rattle.laws.proofs.Outcome.{settles, meet}
 use Rattle.twin.proofs.step as step
 use Rattle.twin.proofs.pins_code as pins-code
-use Rattle.twin.proofs.twin_event as twin-event
-use Rattle.twin.proofs.twin_power_up as twin-power-up
-use Rattle.twin.proofs.twin_pins as twin-pins
-use Rattle.twin.proofs.twin_size as twin-size
-use Rattle.twin.proofs.twin_alignment as twin-alignment
+use Rattle.twin.proofs.twin_4_proved_event as twin-4-proved-event
+use Rattle.twin.proofs.twin_4_proved_power_up as twin-4-proved-power-up
+use Rattle.twin.proofs.twin_4_proved_pins as twin-4-proved-pins
+use Rattle.twin.proofs.twin_4_proved_size as twin-4-proved-size
+use Rattle.twin.proofs.twin_4_proved_alignment as twin-4-proved-alignment
 
 -- what a step gave, with the lent store in the device
 abbrev lent-in : Stepped → List ℕ → Stepped
@@ -29,17 +29,17 @@ step-settled = settles (λ κs a r r′ s s′ p q.
 pub pins-code-settled : Settled pins-code.ended (λ M. pins-code.clauses) (λ M. pins-code.spec)
 pins-code-settled = settles (λ κs a r r′ s s′ p q. (meet p q, refl))
 
-pub twin-event-settled : Settled twin-event.ended (λ M. twin-event.clauses) (λ M. twin-event.spec)
-twin-event-settled = settles (λ κs a r r′ s s′ p q. (meet (p .0) (q .0), λ i. (meet (p .1) (q .1) i, (tt, (tt, (tt, (tt, (tt, (tt, (meet (p .2) (q .2) i, (tt, tt)))))))))))
+pub twin-4-proved-event-settled : Settled twin-4-proved-event.ended (λ M. twin-4-proved-event.clauses) (λ M. twin-4-proved-event.spec)
+twin-4-proved-event-settled = settles (λ κs a r r′ s s′ p q. (meet (p .0) (q .0), λ i. (meet (p .1) (q .1) i, (tt, (tt, (tt, (tt, (tt, (tt, (meet (p .2) (q .2) i, (tt, tt)))))))))))
 
-pub twin-power-up-settled : Settled twin-power-up.ended (λ M. twin-power-up.clauses) (λ M. twin-power-up.spec)
-twin-power-up-settled = settles (λ κs a r r′ s s′ p q. (refl, λ i. (meet p q i, tt)))
+pub twin-4-proved-power-up-settled : Settled twin-4-proved-power-up.ended (λ M. twin-4-proved-power-up.clauses) (λ M. twin-4-proved-power-up.spec)
+twin-4-proved-power-up-settled = settles (λ κs a r r′ s s′ p q. (refl, λ i. (meet p q i, tt)))
 
-pub twin-pins-settled : Settled twin-pins.ended (λ M. twin-pins.clauses) (λ M. twin-pins.spec)
-twin-pins-settled = settles (λ κs a r r′ s s′ p q. (meet p q, refl))
+pub twin-4-proved-pins-settled : Settled twin-4-proved-pins.ended (λ M. twin-4-proved-pins.clauses) (λ M. twin-4-proved-pins.spec)
+twin-4-proved-pins-settled = settles (λ κs a r r′ s s′ p q. (meet p q, refl))
 
-pub twin-size-settled : Settled twin-size.ended (λ M. twin-size.clauses) (λ M. twin-size.spec)
-twin-size-settled = settles (λ κs a r r′ s s′ p q. (meet p q, refl))
+pub twin-4-proved-size-settled : Settled twin-4-proved-size.ended (λ M. twin-4-proved-size.clauses) (λ M. twin-4-proved-size.spec)
+twin-4-proved-size-settled = settles (λ κs a r r′ s s′ p q. (meet p q, refl))
 
-pub twin-alignment-settled : Settled twin-alignment.ended (λ M. twin-alignment.clauses) (λ M. twin-alignment.spec)
-twin-alignment-settled = settles (λ κs a r r′ s s′ p q. (meet p q, refl))
+pub twin-4-proved-alignment-settled : Settled twin-4-proved-alignment.ended (λ M. twin-4-proved-alignment.clauses) (λ M. twin-4-proved-alignment.spec)
+twin-4-proved-alignment-settled = settles (λ κs a r r′ s s′ p q. (meet p q, refl))

@@ -1,4 +1,5 @@
 // The thin entry of 01 for the bench harness: it borrows the harness's own record and updates it for one event.
+// C calls these functions through library/entry.c, which looks at pointers first; the 4 in their names is the header's major version.
 ghost use mathlib.Core.Path.{_≡_};
 ghost use lib.ListN.{length};
 ghost use prog.Memory.{size, align};
@@ -92,7 +93,7 @@ pub fn pins_code(device: Device) -> u8
 
 // One event, on the harness's own record: its store is lent where it lies, and the rest goes by value.
 #[no_mangle]
-pub extern "C" fn twin_event(
+pub extern "C" fn twin_4_proved_event(
     d: &mut Device,
     kind: u8,
     address: u8,
@@ -125,7 +126,7 @@ pub extern "C" fn twin_event(
 
 // Power-up of the harness's own record.
 #[no_mangle]
-pub extern "C" fn twin_power_up(d: &mut Device)
+pub extern "C" fn twin_4_proved_power_up(d: &mut Device)
     ensures { λ _. ⌜ now (d .exit) ≡ powerUp ⌝ }
 {
     *d = Device::power_up();
@@ -133,7 +134,7 @@ pub extern "C" fn twin_power_up(d: &mut Device)
 
 // The pins of the harness's own record.
 #[no_mangle]
-pub extern "C" fn twin_pins(d: &Device) -> u8
+pub extern "C" fn twin_4_proved_pins(d: &Device) -> u8
     ensures { λ r. ⌜ r ≡ pinsCode (now (d .entry)) ⌝ }
 {
     pins_code(*d)
@@ -141,14 +142,14 @@ pub extern "C" fn twin_pins(d: &Device) -> u8
 
 // The bytes of the record, and what its address must be a multiple of.
 #[no_mangle]
-pub extern "C" fn twin_size() -> usize
+pub extern "C" fn twin_4_proved_size() -> usize
     ensures { λ r. ⌜ r ≡ size deviceType ⌝ }
 {
     320
 }
 
 #[no_mangle]
-pub extern "C" fn twin_alignment() -> usize
+pub extern "C" fn twin_4_proved_alignment() -> usize
     ensures { λ r. ⌜ r ≡ align deviceType ⌝ }
 {
     8

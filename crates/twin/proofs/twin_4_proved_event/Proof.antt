@@ -1,4 +1,4 @@
--- `twin::twin_event` meets its contract: a walk of its MIR, by hand. The first borrow is opened, and the record behind it is copied into a local
+-- `twin::twin_4_proved_event` meets its contract: a walk of its MIR, by hand. The first borrow is opened, and the record behind it is copied into a local
 -- and passed to `step`, of which only the contract is known, with a borrow of the record's own store; the second borrow is given to `step` for
 -- good. When the store is back, `with_rest_of` joins it with the rest of what `step` returns, and that is stored behind the first borrow,
 -- which is closed there.
@@ -63,10 +63,10 @@ use Rattle.device.proofs.Device.with_rest_of as w
 use Rattle.device.proofs.Device.with_rest_of.Symbol as w-def
 use Rattle.device.proofs.Device.with_rest_of.Symbol.{name as #with-rest-of}
 use Rattle.device.proofs.Device.with_rest_of.Met as w-thm
-use Rattle.twin.proofs.twin_event.Key.{name as #twin-event}
-use Rattle.twin.proofs.twin_event as f
-use Rattle.twin.proofs.twin_event.Statement as stated
-use Rattle.twin.proofs.twin_event.Code as code
+use Rattle.twin.proofs.twin_4_proved_event.Key.{name as #twin-4-proved-event}
+use Rattle.twin.proofs.twin_4_proved_event as f
+use Rattle.twin.proofs.twin_4_proved_event.Statement as stated
+use Rattle.twin.proofs.twin_4_proved_event.Code as code
 
 abbrev Arg : Type 0
 Arg = RefT Device × (ℕ × (ℕ × (ℕ × (ℤ × (ℤ × (ℤ × (RefT (List ℕ) × (ℕ × Unit {0}))))))))
@@ -114,7 +114,7 @@ Said h e ys r frames zs =
     let was = asked (e .kind) (e .address) (e .byte) (e .x) (e .y) (e .z) (length ys) (e .us) in
     (_≡_ {A = Stepped} (record { number = r .number; device = holding (r .device) frames }) (stepOf h was)) × (r .device .frames ≡ h .frames) × (zs ≡ lentAt h was ys)
 
--- and what `twin_event` has to say
+-- and what `twin_4_proved_event` has to say
 abbrev Done : Device → Numbers → List ℕ → ℕ → Device → List ℕ → Type 0
 Done h e ys n d zs =
     let was = asked (e .kind) (e .address) (e .byte) (e .x) (e .y) (e .z) (length ys) (e .us) in
@@ -273,14 +273,14 @@ module _ {M : Type 1} (𝓤 : URA M) (H : Heap 𝓤) (A : Atoms 𝓤) (W : Given
       let s = a .1 .1 .1 .1 .1 .1 .1 .0 in
       via 𝓤 _ (fst∗ 𝓤 _ (emp 𝓤)) (walk 𝓤 H A W at-mem run (κs .0) (κs .1 .0) (qs .0) (qs .1 .0) (a .0 .ptr .0) (a .0 .ptr .1) (a .0 .name) (a .0 .now) e (s .ptr .0) (s .ptr .1) (s .name) (s .now) C Λ fm known known′ (are .1 .1 .1 .1 .1 .1 .1 .0 .0 .1)))
 
-pub twin-event-spec : {M : Type 1} → stated.statement M
+pub twin-4-proved-event-spec : {M : Type 1} → stated.statement M
 unfolding code.routine
-twin-event-spec 𝓤 H 𝓜 𝓖 𝓡 =
+twin-4-proved-event-spec 𝓤 H 𝓜 𝓖 𝓡 =
     let W = givenOf 𝓤 H 𝓜 𝓖 in
     let n8 = goes-none 𝓤 H (𝓖 .A) W 2 (λ _. u8) yes (λ κs x f. refl) in
     let n16 = goes-none 𝓤 H (𝓖 .A) W 2 (λ _. i16) yes (λ κs x f. refl) in
     let n32 = goes-none 𝓤 H (𝓖 .A) W 2 (λ _. u32) yes (λ κs x f. refl) in
-    proved-by 𝓤 H 𝓜 𝓖 𝓡 f.ended stayed (f.clauses 𝓤 H (𝓖 .A) (𝓜 .mem) (𝓡 .run)) code.env #twin-event code.function (code.unfolded 𝓤 H 𝓜 𝓡)
+    proved-by 𝓤 H 𝓜 𝓖 𝓡 f.ended stayed (f.clauses 𝓤 H (𝓖 .A) (𝓜 .mem) (𝓡 .run)) code.env #twin-4-proved-event code.function (code.unfolded 𝓤 H 𝓜 𝓡)
     (goes-ref 𝓤 H (𝓖 .A) W 2 0 tt (plain (λ _. T.the-row)), (n8, (n8, (n8, (n16, (n16, (n16, (goes-gave-slice 𝓤 H (𝓖 .A) W 2 1 tt (plain (λ _. u8)), (n32, tt)))))))))
     (λ fm. walks 𝓤 H (𝓖 .A) W (𝓜 .mem) (𝓡 .run) (tables 𝓤 H 𝓜 𝓡 code.env .C) (tables 𝓤 H 𝓜 𝓡 code.env .Λ) fm
     (cited 𝓤 H (Step 𝓤 H (𝓖 .A) (𝓜 .mem) (𝓡 .run)) 𝓜 𝓡 code.env #step g-def.routine code.calls-twin·step (g-thm.met 𝓤 H 𝓜 𝓖 𝓡))

@@ -1,4 +1,4 @@
--- `twin::twin_pins` meets its contract: a walk of its MIR, by hand. The borrow is looked into, the record behind it is copied into a local, and the
+-- `twin::twin_4_proved_pins` meets its contract: a walk of its MIR, by hand. The borrow is looked into, the record behind it is copied into a local, and the
 -- borrow is shut again; the copy is passed to `pins_code`, of which only the contract is known.
 -- Assumes nothing.
 use mathlib.Core.Path.{_≡_, refl}
@@ -43,10 +43,10 @@ use Rattle.twin.proofs.pins_code as g
 use Rattle.twin.proofs.pins_code.Symbol as g-def
 use Rattle.twin.proofs.pins_code.Symbol.{name as #pins-code}
 use Rattle.twin.proofs.pins_code.Met as g-thm
-use Rattle.twin.proofs.twin_pins.Key.{name as #twin-pins}
-use Rattle.twin.proofs.twin_pins as f
-use Rattle.twin.proofs.twin_pins.Statement as stated
-use Rattle.twin.proofs.twin_pins.Code as code
+use Rattle.twin.proofs.twin_4_proved_pins.Key.{name as #twin-4-proved-pins}
+use Rattle.twin.proofs.twin_4_proved_pins as f
+use Rattle.twin.proofs.twin_4_proved_pins.Statement as stated
+use Rattle.twin.proofs.twin_4_proved_pins.Code as code
 
 abbrev stayed : Stays (f.ended .signature .params) (f.ended .kept)
 stayed = (stay-none-ref (0 ∷ []) tt (plain (λ _. T.the-row)) yes, tt)
@@ -98,11 +98,11 @@ module _ {M : Type 1} (𝓤 : URA M) (H : Heap 𝓤) (A : Atoms 𝓤) (W : Given
   walks C Λ fm known = walked 𝓤 H A f.ended stayed (f.clauses 𝓤 H A at-mem run) (WpFn 𝓤 H C Λ code.function) (λ κs. (ptr-vals, tt)) (λ κs. (shr-tells (named 0) (κs .0) T.the-row, tt))
       (λ κs qs bounds a _ _. via 𝓤 _ (fst∗ 𝓤 _ (emp 𝓤)) (walk 𝓤 H A W at-mem run (κs .0) (qs .0) (a .0 .ptr .0) (a .0 .ptr .1) (a .0 .name) (a .0 .now) C Λ fm known))
 
-pub twin-pins-spec : {M : Type 1} → stated.statement M
+pub twin-4-proved-pins-spec : {M : Type 1} → stated.statement M
 unfolding code.routine
-twin-pins-spec 𝓤 H 𝓜 𝓖 𝓡 =
+twin-4-proved-pins-spec 𝓤 H 𝓜 𝓖 𝓡 =
     let W = givenOf 𝓤 H 𝓜 𝓖 in
-    proved-by 𝓤 H 𝓜 𝓖 𝓡 f.ended stayed (f.clauses 𝓤 H (𝓖 .A) (𝓜 .mem) (𝓡 .run)) code.env #twin-pins code.function (code.unfolded 𝓤 H 𝓜 𝓡)
+    proved-by 𝓤 H 𝓜 𝓖 𝓡 f.ended stayed (f.clauses 𝓤 H (𝓖 .A) (𝓜 .mem) (𝓡 .run)) code.env #twin-4-proved-pins code.function (code.unfolded 𝓤 H 𝓜 𝓡)
     (goes-none-ref 𝓤 H (𝓖 .A) W 1 (0 ∷ []) tt (plain (λ _. T.the-row)) yes, tt)
     (λ fm. walks 𝓤 H (𝓖 .A) W (𝓜 .mem) (𝓡 .run) (tables 𝓤 H 𝓜 𝓡 code.env .C) (tables 𝓤 H 𝓜 𝓡 code.env .Λ) fm
     (cited 𝓤 H (Asked 𝓤 H (𝓖 .A) (𝓜 .mem) (𝓡 .run)) 𝓜 𝓡 code.env #pins-code g-def.routine code.calls-twin·pins-code (g-thm.met 𝓤 H 𝓜 𝓖 𝓡)))

@@ -1,4 +1,4 @@
--- `twin::twin_power_up` meets its contract: a walk of its MIR, by hand. The borrow is opened, what `power_up` returns is stored behind it, of
+-- `twin::twin_4_proved_power_up` meets its contract: a walk of its MIR, by hand. The borrow is opened, what `power_up` returns is stored behind it, of
 -- which only the contract is known, and the borrow is closed there.
 -- Assumes nothing.
 use mathlib.Core.Path.{_≡_, refl}
@@ -37,10 +37,10 @@ use Rattle.device.proofs.Device.power_up.Symbol as g-def
 use Rattle.device.proofs.Device.power_up.Symbol.{name as #power-up}
 use Rattle.device.proofs.Device.power_up.Met as g-thm
 use Rattle.twin.proofs.Walk.{opens-device, closes-device, typed-device, asks, proved-by}
-use Rattle.twin.proofs.twin_power_up.Key.{name as #twin-power-up}
-use Rattle.twin.proofs.twin_power_up as f
-use Rattle.twin.proofs.twin_power_up.Statement as stated
-use Rattle.twin.proofs.twin_power_up.Code as code
+use Rattle.twin.proofs.twin_4_proved_power_up.Key.{name as #twin-4-proved-power-up}
+use Rattle.twin.proofs.twin_4_proved_power_up as f
+use Rattle.twin.proofs.twin_4_proved_power_up.Statement as stated
+use Rattle.twin.proofs.twin_4_proved_power_up.Code as code
 
 abbrev stayed : Stays (f.ended .signature .params) (f.ended .kept)
 stayed = (stay-ref (0 ∷ []) tt (plain (λ _. T.the-row)), tt)
@@ -94,11 +94,11 @@ module _ {M : Type 1} (𝓤 : URA M) (H : Heap 𝓤) (A : Atoms 𝓤) (W : Given
   walks C Λ fm known = walked 𝓤 H A f.ended stayed (f.clauses 𝓤 H A at-mem run) (WpFn 𝓤 H C Λ code.function) (λ κs. (ptr-vals, tt)) (λ κs. (mut-tells (named 0) (κs .0) T.the-row, tt))
       (λ κs qs bounds a _ _. via 𝓤 _ (fst∗ 𝓤 _ (emp 𝓤)) (walk 𝓤 H A W at-mem run (κs .0) (qs .0) (a .0 .ptr .0) (a .0 .ptr .1) (a .0 .name) (a .0 .now) C Λ fm known))
 
-pub twin-power-up-spec : {M : Type 1} → stated.statement M
+pub twin-4-proved-power-up-spec : {M : Type 1} → stated.statement M
 unfolding code.routine
-twin-power-up-spec 𝓤 H 𝓜 𝓖 𝓡 =
+twin-4-proved-power-up-spec 𝓤 H 𝓜 𝓖 𝓡 =
     let W = givenOf 𝓤 H 𝓜 𝓖 in
-    proved-by 𝓤 H 𝓜 𝓖 𝓡 f.ended stayed (f.clauses 𝓤 H (𝓖 .A) (𝓜 .mem) (𝓡 .run)) code.env #twin-power-up code.function (code.unfolded 𝓤 H 𝓜 𝓡)
+    proved-by 𝓤 H 𝓜 𝓖 𝓡 f.ended stayed (f.clauses 𝓤 H (𝓖 .A) (𝓜 .mem) (𝓡 .run)) code.env #twin-4-proved-power-up code.function (code.unfolded 𝓤 H 𝓜 𝓡)
     (goes-ref 𝓤 H (𝓖 .A) W 1 0 tt (plain (λ _. T.the-row)), tt)
     (λ fm. walks 𝓤 H (𝓖 .A) W (𝓜 .mem) (𝓡 .run) (tables 𝓤 H 𝓜 𝓡 code.env .C) (tables 𝓤 H 𝓜 𝓡 code.env .Λ) fm
     (cited 𝓤 H (Start 𝓤 H (𝓖 .A) (𝓜 .mem) (𝓡 .run)) 𝓜 𝓡 code.env #power-up g-def.routine code.calls-device·Device·power-up (g-thm.met 𝓤 H 𝓜 𝓖 𝓡)))
