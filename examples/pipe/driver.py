@@ -19,7 +19,7 @@ class Refused(Exception):
 class Twin:
     """One twin behind a pipe. Each call sends one record of the log and waits for its line."""
 
-    VERSION, WRITE, READ, SAMPLE, CYCLE = 1, 1, 2, 3, 4
+    VERSION, WRITE, READ, SAMPLE, CYCLE, CLOCK = 1, 1, 2, 3, 4, 5
 
     def __init__(self):
         self.replay = subprocess.Popen([os.path.join(ROOT, "bin", "replay"), "-"], stdin=subprocess.PIPE, stdout=subprocess.PIPE, bufsize=0)
@@ -43,6 +43,10 @@ class Twin:
 
     def start_cycle(self):
         self.record(bytes([self.CYCLE]))
+
+    def clock(self, microseconds):
+        """Time that passes; no other record takes any."""
+        self.record(struct.pack(">BI", self.CLOCK, microseconds))
 
     def close(self):
         """The end of the log: the pins, as the last line has them."""
@@ -70,6 +74,12 @@ def main():
     frames = twin.read(0x3F, 12)
     for at in range(0, len(frames), 6):
         print("frame", *(value >> 4 for value in struct.unpack("<hhh", frames[at:at + 6])))
+    for address, byte in (0x16, 0x07), (0x21, 0x09):  # any-motion, with a latch time of 250 us
+        twin.write(address, byte)
+    twin.sample(500, 0, 0)
+    for microseconds in 249, 1:
+        twin.clock(microseconds)
+        print("%d us later: motion %s" % (microseconds, "shown" if twin.read(0x09, 1)[0] & 0x04 else "over"))
     print("pins", *twin.close())
 
 
