@@ -69,7 +69,8 @@ enum twin_level { TWIN_LOW = 0, TWIN_HIGH = 1, TWIN_RELEASED = 2 };
 #define TWIN_LONGEST_READ 192 /* bytes */
 #define TWIN_ROOM 512         /* bytes of a record, of which the library uses the first twin_size() */
 
-/* ---- the record: room for the library's own, with some left for what later versions add. Use the functions. */
+/* ---- the record: room for the library's own, with some left for what later versions add. Its size is that of the major version. Use the
+ * functions. */
 struct twin {
     uint64_t room[TWIN_ROOM / 8];
 };

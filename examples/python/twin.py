@@ -1,4 +1,4 @@
-"""The twin of the BMA253 and BMA255 accelerometers for Python 3.6 and later, on the shared library that bin/install-library installs (x86-64).
+"""The twin of the BMA253 and BMA255 accelerometers for Python 3.6 and later, on the shared library of bin/install-library (x86-64).
 
     import twin
     chip = twin.Twin("/usr/local")
@@ -10,8 +10,8 @@ of -1, a ValueError; the library is not called then. The counts of a sample and 
 twin that refuses them, with 4 and 5.
 
 The library is the one that is named: to Twin, or in the environment by TWIN_LIBRARY; as a file, or as the PREFIX that it was installed
-under. Where none is named, it is looked for in the folders above this file, in their lib/ and, for a checkout, in their target/library/,
-and then where the system's loader looks. What is not found, or is not of this major version, is a NoLibrary.
+under. Where none is named, it is looked for beside this file, in a lib/ one or two folders above it, in the checkout that this file belongs
+to, and then where the system's loader looks. What is not found, or is not of this major version, is a NoLibrary.
 """
 import ctypes
 import operator
@@ -71,15 +71,13 @@ def _named(place):
 
 
 def _looked_for():
-    """The library's file in the folders above this one; or its name, for the loader."""
-    folder = os.path.dirname(os.path.realpath(__file__))
-    while True:
-        for below in ("lib", os.path.join("target", "library")):
-            if os.path.isfile(os.path.join(folder, below, _NAME)):
-                return os.path.join(folder, below, _NAME)
-        if folder == os.path.dirname(folder):
-            return _NAME
-        folder = os.path.dirname(folder)
+    """The library's file near this one; or its name, for the loader."""
+    here = os.path.dirname(os.path.realpath(__file__))
+    for folder in (".", "../lib", "../../lib", "../../target/library"):
+        file = os.path.normpath(os.path.join(here, folder, _NAME))
+        if os.path.isfile(file):
+            return file
+    return _NAME
 
 
 def _opened(file):
@@ -88,7 +86,8 @@ def _opened(file):
         return ctypes.PyDLL(file)
     except OSError as error:
         if file == _NAME:
-            raise NoLibrary("%s is not found: name it, or the PREFIX that bin/install-library was given, to Twin or in TWIN_LIBRARY" % file) from None
+            hint = "name it, or the PREFIX that bin/install-library was given, to Twin or in TWIN_LIBRARY"
+            raise NoLibrary("%s is not found: %s" % (file, hint)) from None
         raise NoLibrary("%s cannot be loaded: %s; it is for x86-64, and this machine is %s" % (file, error, platform.machine())) from None
 
 
