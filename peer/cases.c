@@ -1181,6 +1181,14 @@ static void replay(const char *hex, const char *wanted)
     check(replay_gives(false, wanted), "%s", hex);
 }
 
+static void replay_pins(const char *hex, const char *wanted)
+{
+    uint8_t log[256];
+
+    write_log(log, from_hex(hex, log));
+    check(gives_text(replay_command, "pins", false, wanted), "pins: %s", hex);
+}
+
 static const char printed[] =
     "01 00 03 01 3E 40 00 08 03 00 10 FF F0 04 00 05 00 03 02 3F 06";
 
@@ -1317,6 +1325,27 @@ static void clock_log(void)
            MARKS, FIVE_DONE "6 0\n7 0\n8 0 040009\n9 0\n10 0 000008\npins 0 0\n");
 }
 
+/* The pins as they are behind each record, and at a stop behind the last one before it. */
+static void pins_behind_each(void)
+{
+    replay_pins(printed, "1 0 0 0\n2 0 0 0\n3 0 010101FF0140 0 0\npins 0 0\n");
+    replay_pins(THREE_AT_LEVEL_2 "00 03 02 3F 07 00 03 02 0A 01",
+                "1 0 0 0\n2 0 0 0\n3 0 0 0\n4 0 0 0\n5 0 0 0\n6 0 00 0 0\n7 0 1 0\n8 0 40 1 0\n"
+                "9 0 1 0\n10 0 40 1 0\n11 0 01000100010001 0 0\n12 0 00 0 0\npins 0 0\n");
+    replay_pins(HELD_FOR_8_S "00 05 05 00 7A 11 FF" MARKS "00 05 05 00 00 00 01" MARKS,
+                "1 0 0 0\n2 0 0 0\n3 0 0 0\n4 0 0 0\n5 0 1 0\n6 0 1 0\n7 0 040009 1 0\n8 0 0 0\n"
+                "9 0 000008 0 0\npins 0 0\n");
+    replay_pins("01 00 03 01 20 0E 00 03 01 20 00 00 03 01 0F 04 00 03 02 20 01 00 03 02 20 00"
+                "00 03 01 20 01 00 03 01 20 0C 00 00",
+                "1 0 Z Z\n2 0 1 1\n3 2 1 1\n4 0 00 1 1\n5 5 1 1\n6 0 0 1\n7 0 1 Z\n8 8 1 Z\n"
+                "pins 1 Z\n");
+    replay_pins("", "0 9 0 0\npins 0 0\n");
+    replay_pins("02 00 01 04", "0 7 0 0\npins 0 0\n");
+    replay_pins("01", "pins 0 0\n");
+    replay_pins("01 00 01 04 00 03 01 0F", "1 0 0 0\n2 9 0 0\npins 0 0\n");
+    replay_pins("01 00 03 01 20 0A 00", "1 0 Z Z\n2 9 Z Z\npins Z Z\n");
+}
+
 /* Logs of cycle starts that end around the size of a block; the last line but one tells. */
 static void blocks(void)
 {
@@ -1346,42 +1375,84 @@ static void replays(void)
     watermark_log();
     clock_lengths();
     clock_log();
+    pins_behind_each();
     blocks();
 }
 
 /* ---- account ---- */
 
-/* Mostly samples, and what drains or empties the FIFO. */
-static void draw_body(uint8_t body[8])
+/* Mostly samples, and what drains or empties the FIFO. A sample's three values are its number, so
+   that a frame shows which sample it is of, whichever axes it has. */
+static void draw_body(uint8_t body[8], uint64_t number)
 {
     static const uint8_t written[] = {0x3E, 0x3E, 0x0F, 0x14};
 
     memset(body, 0, 8);
     body[0] = draw(8) ? SAMPLE : (uint8_t)(1 + draw(5));
-    if (body[0] == SAMPLE)
-        body[1] = draw(16) ? 0 : 0x70; /* refused */
-    else
+    if (body[0] == SAMPLE) {
+        for (int axis = 0; axis < PEER_AXES; axis++) {
+            body[1 + 2 * axis] = (uint8_t)(number >> 8 & 0x07);
+            body[2 + 2 * axis] = (uint8_t)number;
+        }
+        body[1] = draw(16) ? body[1] : 0x70; /* refused */
+    } else {
         body[1] = body[0] == WRITE ? written[draw(4)] : draw(4) ? 0x3F : 0x0E;
-    if (body[0] != SAMPLE)
         body[2] = (uint8_t)(draw(2) ? 0xB6 : draw(256));
+    }
 }
 
-/* Plays one record on both. Gives whether they agree: frames held, and overrun exactly where a
-   sample was lost since the FIFO was emptied; and whether each sample is in one place. */
+/* The numbers that the frames of a twin show, oldest first, each by its low 11 bits. */
+static int frames_of(const struct peer *t, unsigned number[PEER_DEPTH])
+{
+    struct peer copy = *t;
+    uint8_t bytes[PEER_LONGEST_READ], status, setting;
+    size_t size;
+
+    peer_read(&copy, 0x0E, &status, 1);
+    peer_read(&copy, 0x3E, &setting, 1);
+    peer_read(&copy, 0x3F, bytes, sizeof bytes);
+    size = setting & 3 ? 2 : 6;
+    for (int i = 0; i < (status & 0x7F); i++)
+        number[i] = (unsigned)bytes[size * i] >> 4 | (unsigned)bytes[size * i + 1] << 4;
+    return status & 0x7F;
+}
+
+/* Which sample an accepted one dropped, by the frames before and after it; 0 where none. */
+static unsigned dropped(const unsigned *before, int count, const unsigned *after, int count_after,
+                        unsigned number)
+{
+    if (count_after > count)
+        return 0;
+    return after[count_after - 1] == number ? before[0] : number;
+}
+
+/* Plays one record on both. Gives whether they agree: frames held and of which samples, the sample
+   that was dropped, and overrun exactly where one was lost since the FIFO was emptied; and whether
+   each sample is in one place. */
 static bool agree(struct peer *t, struct account *a, uint64_t *lost_when_emptied)
 {
     uint8_t body[8], bytes[UINT8_MAX], status;
+    unsigned before[PEER_DEPTH], after[PEER_DEPTH], wanted = 0;
+    int count = frames_of(t, before), count_after;
     enum peer_answer answer;
     enum end end;
 
-    draw_body(body);
+    draw_body(body, a->samples + 1);
     answer = play_body(t, body, bytes);
     end = account_record(a, body, answer);
     if (end == RESET || (body[0] == WRITE && body[1] == 0x3E && answer == PEER_DONE))
         *lost_when_emptied = a->since.lost;
     peer_read(t, 0x0E, &status, 1);
-    return a->held == (status & 0x7Fu) && (a->since.lost > *lost_when_emptied) == status >> 7 &&
-           a->since.accepted == a->since.taken + a->since.lost + a->since.cleared + a->held;
+    count_after = frames_of(t, after);
+    for (int i = 0; i < count_after; i++)
+        if (a->held.number[(a->held.oldest + i) % PEER_DEPTH] % 2048 != after[i])
+            return false;
+    if (body[0] == SAMPLE && answer == PEER_DONE)
+        wanted = dropped(before, count, after, count_after, a->samples % 2048);
+    return a->held.count == (unsigned)count_after && a->lost % 2048 == wanted &&
+           (a->since.lost > *lost_when_emptied) == status >> 7 &&
+           a->since.accepted ==
+               a->since.taken + a->since.lost + a->since.cleared + a->held.count;
 }
 
 static void account_and_twin(void)
@@ -1429,9 +1500,20 @@ static void answers(const char *arguments, const char *wanted)
           wanted);
 }
 
-#define NO_SAMPLES "0 accepted, 0 taken, 0 lost, 0 cleared, 0 held before, 0 held after\n"
+#define NONE_LOST "0 accepted, 0 taken, 0 lost, 0 cleared, 0 held before, 0 held after"
+#define LOST                                                                                       \
+    "lost: no readout of the FIFO (a read at 3F) can give them; a read of 02 to 07 is no readout\n"
+#define NO_READOUT "in these records no readout came\n"
+#define A_SAMPLE "00 08 03 00 00 00 00 00 00 00"
 
 /* The insurer's log: 16 g, a refused code, 40 samples into a FIFO of 32, two readouts. */
+static void begin_spring(void)
+{
+    begin_log("01 00 03 01 0F 0C 00 03 01 0F 07 00 03 02 0F 01 00 03 01 3E 41");
+    add(40, "00 08 03 00 10 00 00 00 00 17 00 01 04");
+    add(1, "00 03 02 0E 01 00 03 02 3F 20 00 03 02 0E 01 00 03 02 3F 20 00 03 02 0E 01");
+}
+
 static void spring(void)
 {
     static const char wanted[] = "1 1 2g 0 0 0 0 0 0 range\n"
@@ -1441,19 +1523,44 @@ static void spring(void)
                                  "89 89 16g? 0 0 0 0 0 0 rest\n"
                                  "end 89\n";
 
-    begin_log("01 00 03 01 0F 0C 00 03 01 0F 07 00 03 02 0F 01 00 03 01 3E 41");
-    add(40, "00 08 03 00 10 00 00 00 00 17 00 01 04");
-    add(1, "00 03 02 0E 01 00 03 02 3F 20 00 03 02 0E 01 00 03 02 3F 20 00 03 02 0E 01");
+    begin_spring();
     answers("", wanted);
     check(gives_text(answer_command, "", true, wanted), "spring, byte by byte");
-    answers("0 86", "from record 1: 2g\n"
-                    "from record 2: 16g\n"
-                    "from record 3: 16g?, because record 2 wrote 07 to 0F and was refused\n"
-                    "records 1 to 86: 40 accepted, 16 taken, 8 lost, 0 cleared, 0 held before, "
-                    "16 held after\n");
+    answers("modes", "1 1 2g 0 0 0 0 0 0 range BYPASS\n"
+                     "2 2 16g 0 0 0 0 0 1 refused BYPASS\n"
+                     "3 86 16g? 40 16 8 0 16 0 readout FIFO\n"
+                     "87 88 16g? 0 16 0 0 0 0 readout FIFO\n"
+                     "89 89 16g? 0 0 0 0 0 0 rest FIFO\n"
+                     "end 89\n");
+}
+
+#define SPRING_SETTINGS                                                                            \
+    "from record 1: 2g\n"                                                                          \
+    "from record 1: BYPASS, 1 frame\n"                                                             \
+    "from record 2: 16g\n"                                                                         \
+    "record 2 wrote 07 to 0F and was refused 2\n"                                                  \
+    "from record 3: 16g?, because record 2 wrote 07 to 0F and was refused\n"                       \
+    "from record 5: FIFO, 32 frames\n"
+
+static void spring_in_words(void)
+{
+    static const char all[] = SPRING_SETTINGS
+        "records 1 to 89: 40 accepted, 32 taken, 8 lost, 0 cleared, 0 held before, 0 held after, "
+        "1 refused\n" LOST "the log ends after record 89\n";
+
+    begin_spring();
+    answers("0 86", SPRING_SETTINGS
+            "records 1 to 86: 40 accepted, 16 taken, 8 lost, 0 cleared, 0 held before, "
+            "16 held after, 1 refused\n" LOST);
+    answers("0 85", SPRING_SETTINGS
+            "records 1 to 85: 40 accepted, 0 taken, 8 lost, 0 cleared, 0 held before, "
+            "32 held after, 1 refused\n" LOST NO_READOUT);
     answers("86 88", "from record 87: 16g?, because record 2 wrote 07 to 0F and was refused\n"
+                     "from record 87: FIFO, 32 frames\n"
                      "records 87 to 88: 0 accepted, 16 taken, 0 lost, 0 cleared, "
-                     "16 held before, 0 held after\n");
+                     "16 held before, 0 held after, 0 refused\n");
+    answers("all", all);
+    check(gives_text(answer_command, "all", true, all), "spring in words, byte by byte");
 }
 
 /* Doubt comes with a refused write and goes with an accepted one or a soft reset, no readout. */
@@ -1470,125 +1577,505 @@ static void doubts(void)
                 "7 7 2g 0 0 0 0 0 0 rest\n"
                 "end 7\n");
     answers("0 7", "from record 1: 2g\n"
+                   "from record 1: BYPASS, 1 frame\n"
+                   "record 1 wrote 04 to 0F and was refused 2\n"
                    "from record 2: 2g?, because record 1 wrote 04 to 0F and was refused\n"
                    "from record 4: 4g\n"
+                   "record 4 wrote 00 to 0F and was refused 2\n"
                    "from record 5: 4g?, because record 4 wrote 00 to 0F and was refused\n"
+                   "record 5 wrote 1F to 0F and was refused 2\n"
                    "from record 6: 4g?, because record 5 wrote 1F to 0F and was refused\n"
                    "from record 7: 2g\n"
-                   "records 1 to 7: " NO_SAMPLES);
+                   "records 1 to 7: " NONE_LOST ", 3 refused\n");
     answers("2 3", "from record 3: 2g?, because record 1 wrote 04 to 0F and was refused\n"
-                   "records 3 to 3: " NO_SAMPLES);
+                   "from record 3: BYPASS, 1 frame\n"
+                   "records 3 to 3: " NONE_LOST ", 0 refused\n" NO_READOUT);
     answers("5 8", "from record 6: 4g?, because record 5 wrote 1F to 0F and was refused\n"
+                   "from record 6: BYPASS, 1 frame\n"
                    "from record 7: 2g\n"
-                   "records 6 to 7: " NO_SAMPLES
+                   "records 6 to 7: " NONE_LOST ", 0 refused\n" NO_READOUT
                    "the log ends after record 7; what came up to record 8 is not known\n");
     answers("7 8", "the log ends after record 7; what came up to record 8 is not known\n");
     answers("8 18446744073709551615", "the log ends after record 7; what came up to record "
                                       "18446744073709551615 is not known\n");
 }
 
+/* A refused write is told where it is the last record asked for; what it does is not. */
+static void doubt_at_the_end(void)
+{
+    begin_log("01 00 03 01 0F 0C 00 03 01 3E C0 00 03 01 0F 04");
+    answers("0 1", "from record 1: 2g\n"
+                   "from record 1: BYPASS, 1 frame\n"
+                   "records 1 to 1: " NONE_LOST ", 0 refused\n" NO_READOUT);
+    answers("1 2", "from record 2: 16g\n"
+                   "from record 2: BYPASS, 1 frame\n"
+                   "record 2 wrote C0 to 3E and was refused 2\n"
+                   "records 2 to 2: " NONE_LOST ", 1 refused\n" NO_READOUT);
+    answers("2 3", "from record 3: 16g\n"
+                   "from record 3: BYPASS?, 1 frame, because record 2 wrote C0 to 3E and was "
+                   "refused\n"
+                   "record 3 wrote 04 to 0F and was refused 2\n"
+                   "records 3 to 3: " NONE_LOST ", 1 refused\n" NO_READOUT);
+    answers("2 4", "from record 3: 16g\n"
+                   "from record 3: BYPASS?, 1 frame, because record 2 wrote C0 to 3E and was "
+                   "refused\n"
+                   "record 3 wrote 04 to 0F and was refused 2\n"
+                   "from record 4: 16g?, because record 3 wrote 04 to 0F and was refused\n"
+                   "records 3 to 3: " NONE_LOST ", 1 refused\n" NO_READOUT
+                   "the log ends after record 3; what came up to record 4 is not known\n");
+    answers("all", "from record 1: 2g\n"
+                   "from record 1: BYPASS, 1 frame\n"
+                   "from record 2: 16g\n"
+                   "record 2 wrote C0 to 3E and was refused 2\n"
+                   "from record 3: BYPASS?, 1 frame, because record 2 wrote C0 to 3E and was "
+                   "refused\n"
+                   "record 3 wrote 04 to 0F and was refused 2\n"
+                   "from record 4: 16g?, because record 3 wrote 04 to 0F and was refused\n"
+                   "records 1 to 3: " NONE_LOST ", 2 refused\n" NO_READOUT
+                   "the log ends after record 3\n");
+}
+
+/* The mode as the range: doubt by a refused write, out of it by an accepted one or a soft reset. A
+   write to 0x3E ends no stretch, and the mode of a stretch is the one before its last record. */
+static void modes_in_doubt(void)
+{
+    begin_log("01 00 03 01 3E C0 00 03 02 3F 01 00 03 01 3E 40 00 03 01 3E FF 00 03 01 3E C1"
+              "00 03 02 3F 01 00 03 01 14 B6 00 03 01 3E 80 00 03 02 3F 01 00 03 01 3E D2"
+              "00 03 01 3E BC 00 03 01 0F 08 00 03 01 3E 00 00 03 01 3E C0");
+    answers("modes", "1 2 2g 0 0 0 0 0 1 readout BYPASS?\n"
+                     "3 6 2g 0 0 0 0 0 2 readout FIFO?\n"
+                     "7 7 2g 0 0 0 0 0 0 reset FIFO?\n"
+                     "8 9 2g 0 0 0 0 0 0 readout STREAM\n"
+                     "10 12 2g 0 0 0 0 0 1 range STREAM\n"
+                     "13 14 8g 0 0 0 0 0 1 rest BYPASS\n"
+                     "end 14\n");
+    answers("all", "from record 1: 2g\n"
+                   "from record 1: BYPASS, 1 frame\n"
+                   "record 1 wrote C0 to 3E and was refused 2\n"
+                   "from record 2: BYPASS?, 1 frame, because record 1 wrote C0 to 3E and was "
+                   "refused\n"
+                   "from record 4: FIFO, 32 frames\n"
+                   "record 4 wrote FF to 3E and was refused 2\n"
+                   "from record 5: FIFO?, 32 frames, because record 4 wrote FF to 3E and was "
+                   "refused\n"
+                   "record 5 wrote C1 to 3E and was refused 2\n"
+                   "from record 6: FIFO?, 32 frames, because record 5 wrote C1 to 3E and was "
+                   "refused\n"
+                   "from record 8: BYPASS, 1 frame\n"
+                   "from record 9: STREAM, 32 frames\n"
+                   "record 10 wrote D2 to 3E and was refused 2\n"
+                   "from record 11: STREAM?, 32 frames, because record 10 wrote D2 to 3E and was "
+                   "refused\n"
+                   "from record 12: STREAM, 32 frames\n"
+                   "from record 13: 8g\n"
+                   "from record 14: BYPASS, 1 frame\n"
+                   "record 14 wrote C0 to 3E and was refused 2\n"
+                   "from record 15: BYPASS?, 1 frame, because record 14 wrote C0 to 3E and was "
+                   "refused\n"
+                   "records 1 to 14: " NONE_LOST ", 5 refused\n"
+                   "the log ends after record 14\n");
+}
+
+/* The mode behind the last record of a rest is not yet its mode. */
+static void mode_of_a_rest(void)
+{
+    begin_log("01 00 03 01 3E 40");
+    answers("modes", "1 1 2g 0 0 0 0 0 0 rest BYPASS\nend 1\n");
+    begin_log("01 00 03 01 3E 40 00 01 04");
+    answers("modes", "1 2 2g 0 0 0 0 0 0 rest FIFO\nend 2\n");
+    begin_log("01 00 03 01 3E 80 00 03 01 3E C0 00");
+    answers("modes", "1 2 2g 0 0 0 0 0 1 rest STREAM\nstop 3 9\n");
+    begin_log("01 00 03 01 3E C0 00 01 04 00 03 01 14 B6 00 01 04");
+    answers("modes", "1 3 2g 0 0 0 0 0 1 reset BYPASS?\n4 4 2g 0 0 0 0 0 0 rest BYPASS\nend 4\n");
+}
+
+/* What is written again as it is, also with other ignored bits, other axes or by a soft reset, is
+   told once; but where it was in doubt, it is told again. Both may change with one record. */
+static void told_once(void)
+{
+    begin_log("01 00 03 01 0F 03 00 03 01 3E 00 00 03 01 14 B6 00 03 01 0F F5 00 03 01 0F 05"
+              "00 03 01 3E 40 00 03 01 3E 7D 00 03 01 3E 40 00 03 01 0F 01 00 03 01 0F 45"
+              "00 03 01 3E C0 00 03 01 14 B6 00 03 01 0F 0C 00 03 01 14 B6 00 03 02 3F 01");
+    answers("0 15", "from record 1: 2g\n"
+                    "from record 1: BYPASS, 1 frame\n"
+                    "from record 5: 4g\n"
+                    "from record 7: FIFO, 32 frames\n"
+                    "record 9 wrote 01 to 0F and was refused 2\n"
+                    "from record 10: 4g?, because record 9 wrote 01 to 0F and was refused\n"
+                    "from record 11: 4g\n"
+                    "record 11 wrote C0 to 3E and was refused 2\n"
+                    "from record 12: FIFO?, 32 frames, because record 11 wrote C0 to 3E and was "
+                    "refused\n"
+                    "from record 13: 2g\n"
+                    "from record 13: BYPASS, 1 frame\n"
+                    "from record 14: 16g\n"
+                    "from record 15: 2g\n"
+                    "records 1 to 15: " NONE_LOST ", 2 refused\n");
+    answers("6 7", "from record 7: 4g\n"
+                   "from record 7: FIFO, 32 frames\n"
+                   "records 7 to 7: " NONE_LOST ", 0 refused\n" NO_READOUT);
+}
+
+/* Each refused write has its line, at whatever address; writes that the chip ignores have none, and
+   refused reads and samples are only counted. */
+static void refused_writes(void)
+{
+    begin_log("01 00 03 01 11 80 00 03 01 14 B5 00 03 01 00 12 00 03 01 3F FF 00 03 01 15 FF"
+              "00 03 01 40 0A 00 03 01 FF B6 00 03 01 16 80 00 03 01 17 0F 00 03 01 18 04"
+              "00 03 01 32 01 00 03 01 33 02 00 03 01 36 80 00 03 01 38 01 00 03 01 3A FF"
+              "00 03 02 40 01 00 03 02 3F 00 00 03 02 3F C1 00 03 02 3E 02"
+              "00 08 03 08 00 00 00 00 00 00 00 03 01 11 1E");
+    answers("all", "from record 1: 2g\n"
+                   "from record 1: BYPASS, 1 frame\n"
+                   "record 1 wrote 80 to 11 and was refused 12\n"
+                   "record 6 wrote 0A to 40 and was refused 1\n"
+                   "record 7 wrote B6 to FF and was refused 1\n"
+                   "record 8 wrote 80 to 16 and was refused 11\n"
+                   "record 9 wrote 0F to 17 and was refused 11\n"
+                   "record 10 wrote 04 to 18 and was refused 11\n"
+                   "record 11 wrote 01 to 32 and was refused 13\n"
+                   "record 12 wrote 02 to 33 and was refused 13\n"
+                   "record 13 wrote 80 to 36 and was refused 13\n"
+                   "record 14 wrote 01 to 38 and was refused 13\n"
+                   "record 15 wrote FF to 3A and was refused 13\n"
+                   "records 1 to 21: " NONE_LOST ", 16 refused\n" NO_READOUT
+                   "the log ends after record 21\n");
+    answers("1 7", "from record 2: 2g\n"
+                   "from record 2: BYPASS, 1 frame\n"
+                   "record 6 wrote 0A to 40 and was refused 1\n"
+                   "record 7 wrote B6 to FF and was refused 1\n"
+                   "records 2 to 7: " NONE_LOST ", 2 refused\n" NO_READOUT);
+}
+
+/* ---- which sample was lost ---- */
+
+/* So many samples, an event as the body of a record, so many samples more: whether the last one
+   loses one, and how many samples back. */
+static const struct {
+    uint8_t mode;
+    int before;
+    const char *event;
+    int after;
+    bool lost;
+    uint64_t back;
+} losses[] = {
+    /* FIFO mode: itself */
+    {0x40, 0, "", 32, false, 0},           {0x40, 0, "", 33, true, 0},
+    {0x40, 0, "", 34, true, 0},            {0x40, 33, "02 3F 01", 1, false, 0},
+    {0x40, 33, "02 3F 01", 2, true, 0},    {0x40, 32, "02 3F 07", 2, false, 0},
+    {0x40, 32, "02 3F 07", 3, true, 0},    {0x41, 40, "02 3F 03", 2, false, 0},
+    {0x41, 40, "02 3F 03", 3, true, 0},    {0x40, 33, "02 3F C0", 32, false, 0},
+    {0x40, 33, "02 3F C0", 33, true, 0},   {0x40, 33, "02 3F C1", 1, true, 0},
+    {0x40, 33, "02 02 06", 1, true, 0},    {0x40, 40, "01 3E 40", 32, false, 0},
+    {0x40, 40, "01 3E 40", 33, true, 0},   {0x40, 33, "01 3E C0", 1, true, 0},
+    {0x40, 33, "01 14 B5", 1, true, 0},    {0x40, 33, "01 14 B6", 1, false, 0},
+    {0x40, 33, "01 14 B6", 2, true, 1},    {0x40, 40, "01 3E 80", 32, false, 0},
+    {0x40, 40, "01 3E 80", 33, true, 32},  {0x40, 40, "01 3E 00", 2, true, 1},
+    /* STREAM: 32 back */
+    {0x80, 0, "", 32, false, 0},           {0x80, 0, "", 33, true, 32},
+    {0x80, 0, "", 34, true, 32},           {0x80, 0, "", 100, true, 32},
+    {0x80, 33, "02 3F 01", 1, false, 0},   {0x80, 33, "02 3F 01", 2, true, 32},
+    {0x80, 40, "02 3F 07", 2, false, 0},   {0x80, 40, "02 3F 07", 3, true, 32},
+    {0x83, 40, "02 3F 3F", 32, false, 0},  {0x83, 40, "02 3F 3F", 33, true, 32},
+    {0x82, 31, "02 3F 02", 2, false, 0},   {0x82, 31, "02 3F 02", 3, true, 32},
+    {0x80, 40, "01 3E 80", 32, false, 0},  {0x80, 40, "01 3E 80", 33, true, 32},
+    {0x80, 33, "01 3E C0", 1, true, 32},   {0x80, 33, "01 3E FF", 1, true, 32},
+    {0x80, 33, "02 3F 00", 1, true, 32},   {0x80, 33, "03 08 00 00 00 00 00 00", 1, true, 32},
+    {0x80, 33, "01 30 01", 1, true, 32},   {0x80, 40, "01 3E 40", 33, true, 0},
+    {0x80, 40, "01 3E 01", 1, false, 0},   {0x80, 40, "01 3E 01", 2, true, 1},
+    /* BYPASS: the one before */
+    {0x00, 0, "", 1, false, 0},            {0x00, 0, "", 2, true, 1},
+    {0x00, 0, "", 3, true, 1},             {0x00, 1, "02 3F 01", 1, false, 0},
+    {0x00, 5, "02 3F 01", 1, false, 0},    {0x00, 5, "02 3F 06", 2, true, 1},
+    {0x00, 1, "02 02 06", 1, true, 1},     {0x00, 1, "01 3E C0", 1, true, 1},
+    {0x00, 1, "03 08 00 00 00 00 00 00", 1, true, 1}, {0x00, 1, "04", 1, true, 1},
+    {0x00, 1, "05 FF FF FF FF", 1, true, 1}, {0x00, 3, "01 3E 03", 1, false, 0},
+    {0x00, 3, "01 14 B6", 1, false, 0},    {0x00, 3, "01 14 B6", 2, true, 1},
+    {0x00, 3, "01 3E 80", 33, true, 32},   {0x00, 3, "01 3E 40", 33, true, 0},
+};
+
+static void count_hex(struct peer *t, struct account *a, const char *hex)
+{
+    uint8_t body[8] = {0}, bytes[UINT8_MAX];
+
+    from_hex(hex, body);
+    account_record(a, body, play_body(t, body, bytes));
+}
+
+static void which_was_lost(void)
+{
+    static const char one[] = "03 00 00 00 00 00 00 00";
+
+    for (size_t i = 0; i < sizeof losses / sizeof *losses; i++) {
+        char to_mode[16];
+        struct account a;
+        struct peer t;
+
+        peer_power_up(&t);
+        account_power_up(&a);
+        snprintf(to_mode, sizeof to_mode, "01 3E %02X", losses[i].mode);
+        count_hex(&t, &a, to_mode);
+        for (int k = 0; k < losses[i].before; k++)
+            count_hex(&t, &a, one);
+        if (*losses[i].event != '\0')
+            count_hex(&t, &a, losses[i].event);
+        for (int k = 0; k < losses[i].after; k++)
+            count_hex(&t, &a, one);
+        check((a.lost != 0) == losses[i].lost && (!a.lost || a.samples - a.lost == losses[i].back),
+              "3E=%02X, %d samples, %s, %d samples: %d back", losses[i].mode, losses[i].before,
+              losses[i].event, losses[i].after, (int)(a.samples - a.lost));
+    }
+}
+
 /* One byte takes a frame; a refused write to 0x3E or a refused read does nothing to them. */
-static void frames(void)
+static void begin_frames(void)
 {
     begin_log("01 00 08 03 F8 00 07 FF FF FB 80 00 08 03 00 00 00 01 00 02 00 00 03 02 3F 01");
-    add(3, "00 08 03 00 00 00 00 00 00 00");
+    add(3, A_SAMPLE);
     add(1, "00 03 01 3E 80 00 03 01 3E 40");
-    add(3, "00 08 03 00 00 00 00 00 00 00");
+    add(3, A_SAMPLE);
     add(1, "00 08 03 08 00 00 00 00 00 00 00 03 01 3E C0 00 03 02 3F 00 00 03 02 3F C1"
-           "00 03 02 3F 07 00 03 02 3F 0D 00 08 03 00 00 00 00 00 00 00 00 03 01 14 B6");
+           "00 03 02 3F 07 00 03 02 3F 0D" A_SAMPLE "00 03 01 14 B6");
+}
+
+static void frames(void)
+{
+    begin_frames();
     answers("", "1 3 2g 2 1 1 0 0 0 readout\n"
                 "4 16 2g 6 2 2 1 1 4 readout\n"
                 "17 17 2g 0 1 0 0 0 0 readout\n"
                 "18 19 2g 1 0 0 1 0 0 reset\n"
                 "end 19\n");
-    answers("samples", "sample 1 -2048 2047 -5 0\n"
-                       "sample 2 0 1 2 1\n"
-                       "1 3 2g 2 1 1 0 0 0 readout\n"
-                       "sample 4 0 0 0 0\n"
-                       "sample 5 0 0 0 1\n"
-                       "sample 6 0 0 0 1\n"
-                       "sample 9 0 0 0 0\n"
-                       "sample 10 0 0 0 0\n"
-                       "sample 11 0 0 0 0\n"
-                       "4 16 2g 6 2 2 1 1 4 readout\n"
-                       "17 17 2g 0 1 0 0 0 0 readout\n"
-                       "sample 18 0 0 0 0\n"
-                       "18 19 2g 1 0 0 1 0 0 reset\n"
+    answers("samples", "sample 1 -2048 2047 -5 0 0\n"
+                       "sample 2 0 1 2 1 1\n"
+                       "1 3 2g 2 1 1 0 0 0 readout BYPASS\n"
+                       "sample 4 0 0 0 0 0\n"
+                       "sample 5 0 0 0 1 1\n"
+                       "sample 6 0 0 0 1 1\n"
+                       "sample 9 0 0 0 0 0\n"
+                       "sample 10 0 0 0 0 0\n"
+                       "sample 11 0 0 0 0 0\n"
+                       "4 16 2g 6 2 2 1 1 4 readout FIFO?\n"
+                       "17 17 2g 0 1 0 0 0 0 readout FIFO?\n"
+                       "sample 18 0 0 0 0 0\n"
+                       "18 19 2g 1 0 0 1 0 0 reset FIFO?\n"
                        "end 19\n");
     answers("10 17", "from record 11: 2g\n"
+                     "from record 11: FIFO, 32 frames\n"
+                     "record 13 wrote C0 to 3E and was refused 2\n"
+                     "from record 14: FIFO?, 32 frames, because record 13 wrote C0 to 3E and was "
+                     "refused\n"
                      "records 11 to 17: 1 accepted, 3 taken, 0 lost, 0 cleared, 2 held before, "
-                     "0 held after\n");
+                     "0 held after, 4 refused\n");
+}
+
+/* So many sample lines of zeros behind text, for records in a row. */
+static void add_lines(char *text, int first, int count, const char *lost_and_back)
+{
+    for (int i = 0; i < count; i++)
+        sprintf(text + strlen(text), "sample %d 0 0 0 %s\n", first + i, lost_and_back);
+}
+
+/* The lost one in each mode as it is printed, with a readout of two frames in between. */
+static void losses_in_lines(uint8_t byte, const char *mode, const char *loss)
+{
+    char hex[32], text[4096] = "";
+
+    snprintf(hex, sizeof hex, "01 00 03 01 3E %02X", byte);
+    begin_log(hex);
+    add(33, A_SAMPLE);
+    add(1, "00 03 02 3F 07");
+    add(3, A_SAMPLE);
+    add_lines(text, 2, 32, "0 0");
+    add_lines(text, 34, 1, loss);
+    sprintf(text + strlen(text), "1 35 2g 33 2 1 0 30 0 readout %s\n", mode);
+    add_lines(text, 36, 2, "0 0");
+    add_lines(text, 38, 1, loss);
+    sprintf(text + strlen(text), "36 38 2g 3 0 1 0 32 0 rest %s\nend 38\n", mode);
+    answers("samples", text);
+}
+
+/* A recorder that reads 0x02 to 0x07 and never the FIFO; one with a readout and nothing lost. */
+static void readouts_or_none(void)
+{
+    begin_log("01");
+    add(3, A_SAMPLE "00 03 02 02 06");
+    answers("samples", "sample 1 0 0 0 0 0\nsample 3 0 0 0 1 1\nsample 5 0 0 0 1 1\n"
+                       "1 6 2g 3 0 2 0 1 0 rest BYPASS\nend 6\n");
+    answers("all", "from record 1: 2g\n"
+                   "from record 1: BYPASS, 1 frame\n"
+                   "records 1 to 6: 3 accepted, 0 taken, 2 lost, 0 cleared, 0 held before, "
+                   "1 held after, 0 refused\n" LOST NO_READOUT
+                   "the log ends after record 6\n");
+    answers("4 5", "from record 5: 2g\n"
+                   "from record 5: BYPASS, 1 frame\n"
+                   "records 5 to 5: 1 accepted, 0 taken, 1 lost, 0 cleared, 1 held before, "
+                   "1 held after, 0 refused\n" LOST NO_READOUT);
+    answers("5 6", "from record 6: 2g\n"
+                   "from record 6: BYPASS, 1 frame\n"
+                   "records 6 to 6: 0 accepted, 0 taken, 0 lost, 0 cleared, 1 held before, "
+                   "1 held after, 0 refused\n" NO_READOUT);
+    begin_log("01" A_SAMPLE "00 03 02 3F 06 00 03 02 3F 00");
+    answers("all", "from record 1: 2g\n"
+                   "from record 1: BYPASS, 1 frame\n"
+                   "records 1 to 3: 1 accepted, 1 taken, 0 lost, 0 cleared, 0 held before, "
+                   "0 held after, 1 refused\n"
+                   "the log ends after record 3\n");
+    answers("2 3", "from record 3: 2g\n"
+                   "from record 3: BYPASS, 1 frame\n"
+                   "records 3 to 3: " NONE_LOST ", 1 refused\n" NO_READOUT);
 }
 
 /* A clock is a record like any other: it takes, loses and clears nothing and sets no range. */
 static void clocks_in_between(void)
 {
-    begin_log("01 00 05 05 00 00 00 01 00 03 01 0F 04 00 05 05 FF FF FF FF"
-              "00 08 03 00 00 00 00 00 00 00 00 05 05 00 00 00 00 00 03 02 3F 06"
-              "00 05 05 3F 3F 3F 3F 00 05 05 0F 0F 0F 0F");
+    begin_log("01 00 05 05 00 00 00 01 00 03 01 0F 04 00 05 05 FF FF FF FF" A_SAMPLE
+              "00 05 05 00 00 00 00 00 03 02 3F 06 00 05 05 3F 3F 3F 3F 00 05 05 0F 0F 0F 0F");
     answers("", "1 2 2g 0 0 0 0 0 1 refused\n"
                 "3 6 2g? 1 1 0 0 0 0 readout\n"
                 "7 8 2g? 0 0 0 0 0 0 rest\n"
                 "end 8\n");
-    answers("samples", "1 2 2g 0 0 0 0 0 1 refused\n"
-                       "sample 4 0 0 0 0\n"
-                       "3 6 2g? 1 1 0 0 0 0 readout\n"
-                       "7 8 2g? 0 0 0 0 0 0 rest\n"
+    answers("samples", "1 2 2g 0 0 0 0 0 1 refused BYPASS\n"
+                       "sample 4 0 0 0 0 0\n"
+                       "3 6 2g? 1 1 0 0 0 0 readout BYPASS\n"
+                       "7 8 2g? 0 0 0 0 0 0 rest BYPASS\n"
                        "end 8\n");
     answers("0 6", "from record 1: 2g\n"
+                   "from record 1: BYPASS, 1 frame\n"
+                   "record 2 wrote 04 to 0F and was refused 2\n"
                    "from record 3: 2g?, because record 2 wrote 04 to 0F and was refused\n"
                    "records 1 to 6: 1 accepted, 1 taken, 0 lost, 0 cleared, 0 held before, "
-                   "0 held after\n");
+                   "0 held after, 1 refused\n");
     begin_log("01 00 05 05 00 00 00 01 00 04 05 00 00 00");
     answers("", "1 1 2g 0 0 0 0 0 0 rest\nstop 2 8\n");
 }
 
-static void damaged(void)
+/* ---- logs that stop ---- */
+
+static void no_records(void)
 {
     begin_log("");
     answers("", "stop 0 9\n");
+    answers("modes", "stop 0 9\n");
+    answers("all", "the log was refused 9 at record 0\n");
     answers("0 1", "the log was refused 9 after record 0; what came up to record 1 is not known\n");
     begin_log("02 00 01 04");
     answers("samples", "stop 0 7\n");
+    answers("all", "the log was refused 7 at record 0\n");
     answers("3 9", "the log was refused 7 after record 0; what came up to record 9 is not known\n");
     begin_log("01");
     answers("", "end 0\n");
+    answers("modes", "end 0\n");
+    answers("all", "the log ends after record 0\n");
     answers("0 1", "the log ends after record 0; what came up to record 1 is not known\n");
+    begin_log("01 00");
+    answers("modes", "stop 1 9\n");
+    answers("all", "the log was refused 9 at record 1\n");
+    answers("0 1", "the log was refused 9 after record 0; what came up to record 1 is not known\n");
+}
+
+#define FROM_RECORD_2 "from record 2: 2g\nfrom record 2: BYPASS, 1 frame\n"
+
+static void damaged(void)
+{
     begin_log("01 00 01 04 00 01 04 00 01 05");
     answers("", "1 2 2g 0 0 0 0 0 0 rest\nstop 3 8\n");
-    answers("1 2", "from record 2: 2g\nrecords 2 to 2: " NO_SAMPLES);
-    answers("1 3", "from record 2: 2g\nrecords 2 to 2: " NO_SAMPLES
-                   "the log was refused 8 after record 2; what came up to record 3 is not known\n");
+    answers("modes", "1 2 2g 0 0 0 0 0 0 rest BYPASS\nstop 3 8\n");
+    answers("1 2", FROM_RECORD_2 "records 2 to 2: " NONE_LOST ", 0 refused\n" NO_READOUT);
+    answers("1 3", FROM_RECORD_2 "records 2 to 2: " NONE_LOST ", 0 refused\n" NO_READOUT
+            "the log was refused 8 after record 2; what came up to record 3 is not known\n");
+    answers("2 3", "the log was refused 8 after record 2; what came up to record 3 is not known\n");
+    answers("all", "from record 1: 2g\nfrom record 1: BYPASS, 1 frame\n"
+                   "records 1 to 2: " NONE_LOST ", 0 refused\n" NO_READOUT
+                   "the log was refused 8 at record 3\n");
     begin_log("01 00 03 02 3F 01 00 08");
     answers("", "1 1 2g 0 0 0 0 0 0 readout\nstop 2 9\n");
+    answers("all", "from record 1: 2g\nfrom record 1: BYPASS, 1 frame\n"
+                   "records 1 to 1: " NONE_LOST ", 0 refused\n"
+                   "the log was refused 9 at record 2\n");
+    begin_log("01 00 03 02 3F 01 00 03 01 3E 40 00 03 01 3E");
+    answers("all", "from record 1: 2g\nfrom record 1: BYPASS, 1 frame\n"
+                   "from record 3: FIFO, 32 frames\n"
+                   "records 1 to 2: " NONE_LOST ", 0 refused\n"
+                   "the log was refused 9 at record 3\n");
+    answers("1 2", FROM_RECORD_2 "records 2 to 2: " NONE_LOST ", 0 refused\n" NO_READOUT);
+    answers("1 3", FROM_RECORD_2 "from record 3: FIFO, 32 frames\n"
+            "records 2 to 2: " NONE_LOST ", 0 refused\n" NO_READOUT
+            "the log was refused 9 after record 2; what came up to record 3 is not known\n");
+}
+
+/* A line on standard error, nothing on standard output, status 2. */
+static void is_wrong_use(const char *command, const char *arguments)
+{
+    char line[200];
+
+    snprintf(line, sizeof line,
+             "%s %s <case.log 2>case.err >case.out; test $? = 2 -a ! -s case.out && "
+             "test \"$(wc -l <case.err)\" -eq 1",
+             command, arguments);
+    check(system(line) == 0, "%s %s is wrong use", command, arguments);
+    remove("case.err");
 }
 
 static void wrong_use(void)
 {
-    static const char *const arguments[] = {
-        "x", "1", "5 5", "5 4", "1 x", "-1 5", "+1 5", "'' 5", "1 2 3", "0x1 5",
-        "0 18446744073709551616"};
+    static const char *const of_answer[] = {
+        "x",       "1",     "5 5",     "5 4",           "1 x",       "-1 5",  "+1 5",
+        "'' 5",    "1 2 3", "0x1 5",   "all 1",         "all all",   "0 all", "ALL",
+        "al",      "alls",  "mode",    "modes samples", "samples 5", "pins",  "''",
+        "1 2 all", "' 1' 5", "modes ''", "0 18446744073709551616"};
+    static const char *const of_replay[] = {"x", "pin", "PINS", "pinss", "pins pins", "''",
+                                            "pins ''", "'' pins", "0 1"};
 
-    for (size_t i = 0; i < sizeof arguments / sizeof *arguments; i++) {
-        char line[160];
-
-        snprintf(line, sizeof line, "%s %s <case.log 2>&- >case.out; test $? = 2", answer_command,
-                 arguments[i]);
-        check(system(line) == 0, "answer %s is wrong use", arguments[i]);
-    }
+    for (size_t i = 0; i < sizeof of_answer / sizeof *of_answer; i++)
+        is_wrong_use(answer_command, of_answer[i]);
+    for (size_t i = 0; i < sizeof of_replay / sizeof *of_replay; i++)
+        is_wrong_use(replay_command, of_replay[i]);
 }
 
 /* ---- files that fail ---- */
 
-static void failing_files(const char *command)
+static void failing_files(const char *program, const char *arguments)
 {
-    char line[160];
+    char line[200];
 
     write_log((const uint8_t *)"\1", 1);
-    snprintf(line, sizeof line, "%s <case.log 2>&- >/dev/full", command);
-    check(system(line) != 0, "a full disk is not a stop");
-    snprintf(line, sizeof line, "%s <. 2>&- >case.out", command);
-    check(system(line) != 0, "an input that can't be read is not a stop");
+    snprintf(line, sizeof line, "%s %s <case.log 2>&- >/dev/full", program, arguments);
+    check(system(line) != 0, "%s: a full disk is not a stop", arguments);
+    snprintf(line, sizeof line, "%s %s <. 2>&- >case.out", program, arguments);
+    check(system(line) != 0, "%s: an input that can't be read is not a stop", arguments);
+}
+
+static void all_failing_files(void)
+{
+    static const char *const forms[] = {"", "modes", "samples", "0 1", "all"};
+
+    failing_files(replay_command, "");
+    failing_files(replay_command, "pins");
+    for (size_t i = 0; i < sizeof forms / sizeof *forms; i++) {
+        failing_files(answer_command, forms[i]);
+        check(system("test ! -s case.out") == 0, "%s: no last line where it can't be read",
+              forms[i]);
+    }
+}
+
+static void answer_texts(void)
+{
+    spring();
+    spring_in_words();
+    doubts();
+    doubt_at_the_end();
+    modes_in_doubt();
+    mode_of_a_rest();
+    told_once();
+    refused_writes();
+    frames();
+    losses_in_lines(0x40, "FIFO", "1 0");
+    losses_in_lines(0x80, "STREAM", "1 32");
+    readouts_or_none();
+    clocks_in_between();
+    no_records();
+    damaged();
 }
 
 int main(int count, char **argument)
@@ -1614,15 +2101,10 @@ int main(int count, char **argument)
     latch_times();
     replays();
     account_and_twin();
-    spring();
-    doubts();
-    frames();
-    clocks_in_between();
-    damaged();
+    which_was_lost();
+    answer_texts();
     wrong_use();
-    failing_files(replay_command);
-    failing_files(answer_command);
-    check(system("test ! -s case.out") == 0, "no last line where the input can't be read");
+    all_failing_files();
     remove("case.log");
     remove("case.out");
     printf("%d passed, %d failed\n", passed, failed);
