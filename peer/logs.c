@@ -1,7 +1,8 @@
 /* Makes bench logs, the same for the same arguments on every machine.
 
    logs SEED RECORDS    one log of at most RECORDS records, biased to the edges of the rules; about
-                        one seed in four gives a damaged log, one in 32 a very short one
+                        one seed in four gives a damaged log, one in 12 a log without a readout,
+                        one in 32 a very short one
    logs --big MEGABYTES one long log without damage, with a mix as on a bench, for timing
 
    Random draws never share an expression with each other: C leaves their order open there. */
@@ -32,6 +33,7 @@ struct log {
     uint64_t left;      /* records that may still be written */
     uint64_t undamaged; /* records before the damage */
     enum damage damage;
+    bool no_readouts;   /* 0x02 to 0x07 are read instead */
     bool ended;         /* nothing more is written */
     uint64_t bytes;     /* written so far */
 };
@@ -187,8 +189,13 @@ static void put_write(struct log *l, int address, int byte)
     put_record(l, (uint8_t[]){1, (uint8_t)address, (uint8_t)byte}, 3);
 }
 
+/* A readout that would be refused is none, and stays. */
 static void put_read(struct log *l, int address, int count)
 {
+    if (l->no_readouts && address == 0x3F && count >= 1 && count <= 192) {
+        address = 0x02;
+        count = 6;
+    }
     put_record(l, (uint8_t[]){2, (uint8_t)address, (uint8_t)count}, 3);
 }
 
@@ -520,6 +527,8 @@ static void range_scene(struct log *l)
         int length = any_length(l);
 
         put_write(l, 0x0F, byte);
+        if (one_in(l, 4))
+            put_write(l, 0x0F, byte); /* the same once more, set or refused */
         while (fill-- > 0)
             put_any_sample(l);
         if (one_in(l, 3))
@@ -528,6 +537,69 @@ static void range_scene(struct log *l)
             put_write(l, 0x14, 0xB6);
         if (!one_in(l, 3))
             put_read(l, 0x3F, length);
+    }
+}
+
+/* Another mode or the same, a refused one or two, or a soft reset; gives the byte in 0x3E then. */
+static int turn_mode(struct log *l, int mode)
+{
+    int other = any_fifo_mode(l);
+    int refused = 0xC0 | below(l, 64);
+    int axes = below(l, 64);
+
+    switch (below(l, 8)) {
+    case 0:
+        put_write(l, 0x3E, refused);
+        put_write(l, 0x3E, refused ^ axes);
+        return mode;
+    case 1:
+    case 2:
+        put_write(l, 0x3E, refused);
+        return mode;
+    case 3:
+        put_write(l, 0x3E, mode);
+        return mode;
+    case 4:
+        put_write(l, 0x3E, (mode & 0xC0) | axes);
+        return (mode & 0xC0) | axes;
+    case 5:
+        put_write(l, 0x14, 0xB6);
+        return 0x00;
+    case 6:
+        put_write(l, 0x3E, other);
+        return other;
+    default:
+        return mode;
+    }
+}
+
+static void put_any_samples(struct log *l, int count)
+{
+    while (count-- > 0)
+        put_any_sample(l);
+}
+
+/* FIFO modes, set and refused. Before each the FIFO is filled, mostly read in part and filled again,
+   so that samples are lost with frames that were held before the readout, and with none. */
+static void mode_scene(struct log *l)
+{
+    int mode = any_fifo_mode(l);
+    int turns = 3 + below(l, 5);
+
+    put_write(l, 0x3E, mode);
+    while (turns-- > 0) {
+        bool bypass = mode >> 6 == 0;
+        int fill = bypass ? below(l, 4) : PICK(l, 0, 1, 2, 31, 32, 33, 35);
+        int frames = bypass ? 1 : PICK(l, 1, 1, 2, 3, 31, 32);
+        int size = mode & 3 ? 2 : 6;
+        int unread = below(l, size);
+        int more = below(l, 5);
+
+        put_any_samples(l, fill);
+        if (!one_in(l, 4))
+            put_read(l, 0x3F, frames * size - unread);
+        put_any_samples(l, more);
+        mode = turn_mode(l, mode);
     }
 }
 
@@ -1125,9 +1197,10 @@ static void pins_scene(struct log *l, int fill)
 static void any_scene(struct log *l)
 {
     static void (*const scene[])(struct log *) = {
-        fifo_scene,   fifo_scene,  watermark_scene, watermark_scene, lock_scene, burst_scene,
-        corner_scene, write_scene, write_scene,     sweep_scene,     lack_scene, range_scene,
+        fifo_scene,   fifo_scene,  watermark_scene, watermark_scene, lock_scene,  burst_scene,
+        corner_scene, write_scene, write_scene,     sweep_scene,     lack_scene,  range_scene,
         data_scene,   set_pins,    motion_scene,    motion_scene,    latch_scene, latch_scene,
+        mode_scene,   mode_scene,
     };
 
     if (one_in(l, 16))
@@ -1175,6 +1248,7 @@ static void edge_log(uint64_t seed, uint64_t records)
         l.damage = (enum damage)(1 + below(&l, DAMAGES - 1));
         l.undamaged = records > 0 ? draw(&l) % records : 0;
     }
+    l.no_readouts = one_in(&l, 12);
     put_head(&l);
     l.left = records - last;
     while (l.left > 0 && !l.ended)
