@@ -1716,6 +1716,19 @@ static void told_once(void)
                    "records 7 to 7: " NONE_LOST ", 0 refused\n" NO_READOUT);
 }
 
+/* Out of doubt is out of it, whatever record once brought it. */
+static void told_once_after_doubt(void)
+{
+    begin_log("01 00 03 01 0F 04 00 03 01 3E C0 00 03 01 0F 03 00 03 01 3E 00 00 03 01 14 B6"
+              "00 03 02 3F 01");
+    answers("2 6", "from record 3: 2g?, because record 1 wrote 04 to 0F and was refused\n"
+                   "from record 3: BYPASS?, 1 frame, because record 2 wrote C0 to 3E and was "
+                   "refused\n"
+                   "from record 4: 2g\n"
+                   "from record 5: BYPASS, 1 frame\n"
+                   "records 3 to 6: " NONE_LOST ", 0 refused\n");
+}
+
 /* Each refused write has its line, at whatever address; writes that the chip ignores have none, and
    refused reads and samples are only counted. */
 static void refused_writes(void)
@@ -2068,6 +2081,7 @@ static void answer_texts(void)
     modes_in_doubt();
     mode_of_a_rest();
     told_once();
+    told_once_after_doubt();
     refused_writes();
     frames();
     losses_in_lines(0x40, "FIFO", "1 0");
