@@ -14,7 +14,7 @@ BEGIN {
     dash[1] = ""; dash[2] = " stroke-dasharray=\"7 3\""; dash[3] = " stroke-dasharray=\"2 2.5\""
     shade["2g"] = "#eaf2fa"; shade["4g"] = "#c6dbef"; shade["8g"] = "#9ecae1"; shade["16g"] = "#6baed6"
     shade["BYPASS"] = "#f3f0e6"; shade["FIFO"] = "#fdd0a2"; shade["STREAM"] = "#f5a55a"; shade["several"] = "url(#several)"
-    red = "#c00000"; now = -1
+    red = "#c00000"; now = first = -1
 }
 
 # Totals and end, of the sentences.
@@ -97,7 +97,7 @@ function draw_head(   i, y, name) {
     text(left, 30, 20, "start", name, " font-weight=\"bold\"")
     text(left, 50, 13, "start", "What came in this log, record by record: range and FIFO mode, samples, which of them were lost, readouts and refused writes", "")
     for (i = 1; i <= many_told; i++) text(left, 55 + 17 * i, 13, "start", told[i] (i == many_told && stop ? ": " meaning(stop) : ""), i == many_told && stop ? " font-weight=\"bold\" fill=\"" red "\"" : "")
-    text(left, 57 + 17 * i, 12, "start", ENVIRON["SIZE"] " bytes, SHA-256 " ENVIRON["SUM"], "")
+    text(left, 57 + 17 * i, 12, "start", ENVIRON["SIZE"] (ENVIRON["SIZE"] == 1 ? " byte" : " bytes") ", SHA-256 " ENVIRON["SUM"], "")
 }
 function meaning(r) { return r == 7 ? "its version byte is not 1" : r == 8 ? "the length or the kind of that record is wrong" : stopped_at > 0 ? "it is cut there" : "it is empty" }
 
@@ -117,7 +117,7 @@ function draw_band(band, y, label,   c, d, w, plain, x, free) {
         if (place(d) - place(c) > long(w, 13) + 6) {
             if (w ~ /\?/) box(x - long(w, 13) / 2 - 3, y + 3, long(w, 13) + 6, 16, "#fff", "")
             text(x, y + 16, 13, "middle", w, "")
-        } else if (plain != "several" && free - x + long(w, 11) / 2 < 30 && x + long(w, 11) / 2 < right + 4) {
+        } else if (plain != "several" && (!dense || place(d) - place(c) > 6) && free - x + long(w, 11) / 2 < 30 && x + long(w, 11) / 2 < right + 4) {
             if (x - long(w, 11) / 2 > free) free = x - long(w, 11) / 2
             text(free, y - 4, 11, "start", w, "")
             line(x, y, free + long(w, 11) / 2, y - 3, " stroke=\"#000\" stroke-width=\"0.6\"")

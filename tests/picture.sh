@@ -21,6 +21,8 @@ no_rest() { [ -z "$(find "$room" -name '.picture.*')" ]; }
 # ---- what it shows
 draws 0 examples/spring.log && tail -n 1 "$svg" | grep -q "^</svg>" && is_xml && quiet && has ">records 1 to 89: 40 accepted, 32 taken, 8 lost"
 expect "a picture has the sentence, and is well-formed" $?
+grep -v '>Drawn ' docs/spring.svg >"$room/page.svg" && grep -v '>Drawn ' "$svg" | cmp -s - "$room/page.svg"
+expect "docs/spring.svg is that picture" $?
 [ "$(lost_columns 89)" = "68 70 72 74 76 78 80 82 " ] && has 'y="673.0".*>8<'
 expect "a block for each lost sample, and their number" $?
 has "<title" && has "<desc" && has "number of the record" && has "counts, as stored" && has "$(sha256sum <examples/spring.log | cut -d ' ' -f 1)" && has "566 bytes" && has "Prundiski .*commit" && has "Drawn 20..-..-.. ..:.. UTC" && [ "$(grep -c stroke-dasharray "$svg")" -ge 4 ]
