@@ -1636,7 +1636,8 @@ static void doubt_at_the_end(void)
 }
 
 /* The mode as the range: doubt by a refused write, out of it by an accepted one or a soft reset. A
-   write to 0x3E ends no stretch, and the mode of a stretch is the one before its last record. */
+   write to 0x3E ends no stretch, and the mode of a stretch is the one before its last record; that of
+   a rest is the one at its end. */
 static void modes_in_doubt(void)
 {
     begin_log("01 00 03 01 3E C0 00 03 02 3F 01 00 03 01 3E 40 00 03 01 3E FF 00 03 01 3E C1"
@@ -1647,7 +1648,7 @@ static void modes_in_doubt(void)
                      "7 7 2g 0 0 0 0 0 0 reset FIFO?\n"
                      "8 9 2g 0 0 0 0 0 0 readout STREAM\n"
                      "10 12 2g 0 0 0 0 0 1 range STREAM\n"
-                     "13 14 8g 0 0 0 0 0 1 rest BYPASS\n"
+                     "13 14 8g 0 0 0 0 0 1 rest BYPASS?\n"
                      "end 14\n");
     answers("all", "from record 1: 2g\n"
                    "from record 1: BYPASS, 1 frame\n"
@@ -1676,15 +1677,15 @@ static void modes_in_doubt(void)
                    "the log ends after record 14\n");
 }
 
-/* The mode behind the last record of a rest is not yet its mode. */
+/* The mode of a rest, which no record ends, is the one at its end. */
 static void mode_of_a_rest(void)
 {
     begin_log("01 00 03 01 3E 40");
-    answers("modes", "1 1 2g 0 0 0 0 0 0 rest BYPASS\nend 1\n");
+    answers("modes", "1 1 2g 0 0 0 0 0 0 rest FIFO\nend 1\n");
     begin_log("01 00 03 01 3E 40 00 01 04");
     answers("modes", "1 2 2g 0 0 0 0 0 0 rest FIFO\nend 2\n");
     begin_log("01 00 03 01 3E 80 00 03 01 3E C0 00");
-    answers("modes", "1 2 2g 0 0 0 0 0 1 rest STREAM\nstop 3 9\n");
+    answers("modes", "1 2 2g 0 0 0 0 0 1 rest STREAM?\nstop 3 9\n");
     begin_log("01 00 03 01 3E C0 00 01 04 00 03 01 14 B6 00 01 04");
     answers("modes", "1 3 2g 0 0 0 0 0 1 reset BYPASS?\n4 4 2g 0 0 0 0 0 0 rest BYPASS\nend 4\n");
 }

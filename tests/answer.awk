@@ -2,7 +2,8 @@
 # stretches with their modes, and those with the samples. A line for each fault goes to standard error.
 # - Stretches are adjacent, cover all records and conserve: held before + accepted = taken + lost + cleared + held after.
 # - The words have the sum of all stretches. A range or mode is told when it changes and not again; a doubt has its refused write.
-# - With modes the stretches are the same, and each has the range and the mode that the words say are in force at its last record.
+# - With modes the stretches are the same, and each has the range and the mode that the words say are in force at its last record, and the
+#   rest those behind it.
 # - The samples are those that the stretches count, and the rest of their file is the third. What a sample lost is what the mode says: in
 #   FIFO itself, in STREAM the one 32 back, in BYPASS the one before it; no sample is lost twice, nor one that was not held.
 # It prints the log's status (0 or 3), its records, two record numbers FROM and TO by the seed, half of them ends of stretches and some
@@ -108,8 +109,9 @@ FILENAME == ARGV[3] {
     with_mode[FNR] = $0
     wanted = line[FNR]
     if (NF == 11) {
-        wanted = wanted " " in_force_at("mode", $2)
-        if ($3 != in_force_at("range", $2)) fault("not the range that the words tell")
+        shown = $2 + ($10 == "rest")
+        wanted = wanted " " in_force_at("mode", shown)
+        if ($3 != in_force_at("range", shown)) fault("not the range that the words tell")
     }
     if ($0 != wanted) fault("not the stretch with the mode that the words tell")
     moded = FNR
