@@ -1,3 +1,4 @@
 pub mod Texts
 pub mod Numerals
+pub mod Cases
 pub mod OneOutcome

@@ -3,6 +3,7 @@
 use Rattle.laws.specs.Outcome.{Settled}
 use Rattle.laws.proofs.Outcome.{settles, meet}
 use Rattle.text.proofs.put_line as put-line
+use Rattle.text.proofs.put_line_with_pins as put-line-with-pins
 use Rattle.text.proofs.put_pins as put-pins
 use Rattle.text.proofs.put_number as put-number
 use Rattle.text.proofs.put_in_hex as put-in-hex
@@ -22,3 +23,6 @@ put-in-hex-settled = settles (λ κs a r r′ s s′ p q. (meet (p .0) (q .0), �
 
 pub put-word-settled : Settled put-word.ended (λ M. put-word.clauses) (λ M. put-word.spec)
 put-word-settled = settles (λ κs a r r′ s s′ p q. (meet (p .0) (q .0), λ i. (meet (p .1) (q .1) i, (tt, (tt, tt)))))
+
+pub put-line-with-pins-settled : Settled put-line-with-pins.ended (λ M. put-line-with-pins.clauses) (λ M. put-line-with-pins.spec)
+put-line-with-pins-settled = settles (λ κs a r r′ s s′ p q. (meet (p .0) (q .0), λ i. (meet (p .1) (q .1) i, (tt, (tt, (tt, (tt, (tt, tt))))))))

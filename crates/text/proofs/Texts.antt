@@ -12,8 +12,9 @@ use lib.Dec.{ltb}
 use borrow.Author.Tests.{ltb-true, ltb-false, le-ltb}
 use Rattle.laws.specs.Choice.{pick}
 use Rattle.benchlog.specs.Writer.{lacksRoom, placed}
+use Rattle.interrupts.specs.declared.Pins.{Pins}
 use Rattle.benchlog.proofs.Places.{Put, put-length, put-on}
-use Rattle.text.specs.Text.{digit, hexDigit, lastDigits, mostDigits, decimal, hex, behindSpace, line, longestLine, leftIn, placeAfter, Pushed}
+use Rattle.text.specs.Text.{digit, hexDigit, lastDigits, mostDigits, decimal, hex, behindSpace, front, line, longestLine, lineWithPins, longestWithPins, leftIn, placeAfter, Pushed}
 
 -- ---- pushes
 pub put-none : (out : List ℕ) (at : ℕ) → at ≤ length out → Put out at [] out
@@ -84,6 +85,13 @@ pub length-behind : (bs : List ℕ) → length (behindSpace bs) ≤ 1 + 2 * leng
 length-behind [] = omega arith
 length-behind (b ∷ bs) = omega (arith, length-hex bs)
 
+pub length-front : (number answer : ℕ) (bytes : List ℕ) → 1 + length (front number answer bytes) ≤ longestLine + 2 * length bytes
+length-front n a bs = simp length-append (omega (arith, length-decimal n, length-decimal a, length-behind bs))
+
 pub length-line : (number answer : ℕ) (bytes : List ℕ) → length (line number answer bytes) ≤ longestLine + 2 * length bytes
 unfolding line
-length-line n a bs = simp length-append (omega (arith, length-decimal n, length-decimal a, length-behind bs))
+length-line n a bs = rw (length-append (front n a bs)) (omega (arith, length-front n a bs))
+
+pub length-with-pins : (number answer : ℕ) (bytes : List ℕ) (p : Pins) → length (lineWithPins number answer bytes p) ≤ longestWithPins + 2 * length bytes
+unfolding lineWithPins
+length-with-pins n a bs p = rw (length-append (front n a bs)) (omega (arith, length-front n a bs))

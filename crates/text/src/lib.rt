@@ -1,10 +1,11 @@
-// What the programs print, written into a lent buffer: numbers and words, and the replay's lines, one for a record and the last.
+// What the programs print, written into a lent buffer: numbers and words, and the replay's lines, one for a record, with or without the
+// pins behind it, and the last.
 ghost use mathlib.Core.Path.{_≡_};
 ghost use mathlib.Core.List.{[], _∷_};
 ghost use Prim.Native.Nat.{_+_, _*_, _≤_, _<_};
 ghost use lib.ListN.{length};
 ghost use Rattle.benchlog.specs.Writer.{lacksRoom};
-ghost use Rattle.text.specs.Text.{mostDigits, hexDigit, hex, behindSpace, decimal, line, longestLine, letter, pinsLine, pinsLength, Pushed, leftIn, placeAfter};
+ghost use Rattle.text.specs.Text.{mostDigits, hexDigit, hex, behindSpace, decimal, front, line, longestLine, letter, letters, lettersLength, lineWithPins, longestWithPins, pinsLine, pinsLength, Pushed, leftIn, placeAfter};
 use interrupts::Level;
 use interrupts::Pins;
 
@@ -17,6 +18,12 @@ const MOST_DIGITS: usize = 20;
 
 // A line without bytes: two numbers, two spaces and the line's end.
 pub const LONGEST_LINE: usize = 2 * MOST_DIGITS + 3;
+
+// The letters of both pins, each behind a space, and the line's end.
+const LETTERS_LENGTH: usize = 5;
+
+// A line without bytes, with the pins behind it.
+const LONGEST_WITH_PINS: usize = LONGEST_LINE + LETTERS_LENGTH - 1;
 
 // The bytes of the last line.
 pub const PINS_LENGTH: usize = 9;
@@ -138,15 +145,23 @@ fn copy_word(out: &mut [u8], at: usize, word: &[u8]) -> usize
     at + i
 }
 
+// A record's number, its answer and its bytes, for which there is room: its line without the end.
+fn write_front(out: &mut [u8], at: usize, number: u64, answer: u8, bytes: &[u8]) -> usize
+    requires { ⌜ at + longestLine + 2 * length (now bytes) ≤ length (now out) ⌝ }
+    ensures { λ r. ⌜ Pushed (now (out .entry)) at (front number answer (now (bytes .entry))) (now (out .exit)) r ⌝ }
+{
+    let to = put_decimal(&mut *out, at, number);
+    let to = put_byte(&mut *out, to, SPACE);
+    let to = put_decimal(&mut *out, to, answer as u64);
+    put_behind_space(out, to, bytes)
+}
+
 // A record's line, for which there is room.
 fn write_line(out: &mut [u8], at: usize, number: u64, answer: u8, bytes: &[u8]) -> usize
     requires { ⌜ at + longestLine + 2 * length (now bytes) ≤ length (now out) ⌝ }
     ensures { λ r. ⌜ Pushed (now (out .entry)) at (line number answer (now (bytes .entry))) (now (out .exit)) r ⌝ }
 {
-    let to = put_decimal(&mut *out, at, number);
-    let to = put_byte(&mut *out, to, SPACE);
-    let to = put_decimal(&mut *out, to, answer as u64);
-    let to = put_behind_space(&mut *out, to, bytes);
+    let to = write_front(&mut *out, at, number, answer, bytes);
     put_byte(out, to, NEWLINE)
 }
 
@@ -160,23 +175,44 @@ fn letter_of(level: Level) -> u8
     }
 }
 
+// The letters of both pins, each behind a space, and the line's end, for which there is room.
+fn write_letters(out: &mut [u8], at: usize, pins: Pins) -> usize
+    requires { ⌜ at + lettersLength ≤ length (now out) ⌝ }
+    ensures { λ r. ⌜ Pushed (now (out .entry)) at (letters pins) (now (out .exit)) r ⌝ }
+{
+    let int1 = pins.int1;
+    let int2 = pins.int2;
+    out[at] = SPACE;
+    out[at + 1] = letter_of(int1);
+    out[at + 2] = SPACE;
+    out[at + 3] = letter_of(int2);
+    out[at + 4] = NEWLINE;
+    at + LETTERS_LENGTH
+}
+
+// A record's line with the pins behind it, for which there is room.
+fn write_line_with_pins(
+    out: &mut [u8],
+    at: usize,
+    number: u64,
+    answer: u8,
+    bytes: &[u8],
+    pins: Pins,
+) -> usize
+    requires { ⌜ at + longestWithPins + 2 * length (now bytes) ≤ length (now out) ⌝ }
+    ensures { λ r. ⌜ Pushed (now (out .entry)) at (lineWithPins number answer (now (bytes .entry)) pins) (now (out .exit)) r ⌝ }
+{
+    let to = write_front(&mut *out, at, number, answer, bytes);
+    write_letters(out, to, pins)
+}
+
 // The last line, for which there is room.
 fn write_pins(out: &mut [u8], at: usize, pins: Pins) -> usize
     requires { ⌜ at + pinsLength ≤ length (now out) ⌝ }
     ensures { λ r. ⌜ Pushed (now (out .entry)) at (pinsLine pins) (now (out .exit)) r ⌝ }
 {
-    let int1 = pins.int1;
-    let int2 = pins.int2;
-    out[at] = b'p';
-    out[at + 1] = b'i';
-    out[at + 2] = b'n';
-    out[at + 3] = b's';
-    out[at + 4] = SPACE;
-    out[at + 5] = letter_of(int1);
-    out[at + 6] = SPACE;
-    out[at + 7] = letter_of(int2);
-    out[at + 8] = NEWLINE;
-    at + PINS_LENGTH
+    let to = copy_word(&mut *out, at, b"pins");
+    write_letters(out, to, pins)
 }
 
 // A record's line from a place on: the place behind it. Where there is not room for the longest line with so many bytes, nothing
@@ -188,6 +224,23 @@ pub fn put_line(out: &mut [u8], at: usize, number: u64, answer: u8, bytes: &[u8]
         return at;
     }
     write_line(out, at, number, answer, bytes)
+}
+
+// A record's line with the pins behind it, in the same way.
+pub fn put_line_with_pins(
+    out: &mut [u8],
+    at: usize,
+    number: u64,
+    answer: u8,
+    bytes: &[u8],
+    pins: Pins,
+) -> usize
+    ensures { λ r. ⌜ (r ≡ placeAfter (longestWithPins + 2 * length (now (bytes .entry))) (now (out .entry)) at (lineWithPins number answer (now (bytes .entry)) pins)) × (now (out .exit) ≡ leftIn (longestWithPins + 2 * length (now (bytes .entry))) (now (out .entry)) at (lineWithPins number answer (now (bytes .entry)) pins)) ⌝ }
+{
+    if lacks_room(out.len(), at, LONGEST_WITH_PINS, bytes.len()) {
+        return at;
+    }
+    write_line_with_pins(out, at, number, answer, bytes, pins)
 }
 
 // The last line, in the same way.

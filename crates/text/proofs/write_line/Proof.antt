@@ -2,7 +2,7 @@ use native.Mathlib.Omega.{arith}
 use borrow.Author.Needs.{needs}
 use denote.Ref.{now}
 use Rattle.text.specs.Text.{line}
-use Rattle.text.proofs.Texts.{length-decimal, length-behind, pushed-two}
+use Rattle.text.proofs.Texts.{length-front, pushed-two}
 use Rattle.text.proofs.write_line.Statement.{statement}
 use Rattle.text.proofs.write_line.Tie as tie
 
@@ -13,33 +13,11 @@ write-line-spec =
     (tie.spec
     (λ c κs. search needs)
     (λ c κs.
-    let first = c .before .before .before in
-    omega (arith, length-decimal (first .before .before .before .before .args .number)))
-    (λ c κs.
-    let space = c .before .before .before in
-    let first = space .before .before .before .before in
-    omega (arith, length-decimal (first .before .before .before .before .args .number)))
-    (λ c κs.
-    let second = c .before .before .before in
-    let space = second .before .before .before .before in
-    let first = space .before .before .before .before in
-    let a = first .before .before .before .before .args in
-    omega (arith, length-decimal (a .number), length-decimal (a .answer)))
-    (λ c κs.
-    let given = c .before .before .before in
-    let second = given .before .before .before .before in
-    let space = second .before .before .before .before in
-    let first = space .before .before .before .before in
-    let a = first .before .before .before .before .args in
-    omega (arith, length-decimal (a .number), length-decimal (a .answer), length-behind (now (a .bytes))))
+    let front = c .before .before .before in
+    let a = front .before .before .before .before .args in
+    omega (arith, length-front (a .number) (a .answer) (now (a .bytes))))
     (λ c. search needs)
     (λ c.
     let end = c .before .before in
-    let given = end .before .before .before .before in
-    let second = given .before .before .before .before in
-    let space = second .before .before .before .before in
-    let first = space .before .before .before .before in
-    pushed-two (first .put-decimal .ensures)
-    (pushed-two (space .put-byte .ensures)
-    (pushed-two (second .put-decimal2 .ensures)
-    (pushed-two (given .put-behind-space .ensures) (end .put-byte2 .ensures))))))
+    let front = end .before .before .before .before in
+    pushed-two (front .write-front .ensures) (end .put-byte .ensures)))

@@ -1,10 +1,6 @@
 use borrow.Author.Needs.{needs}
-use mathlib.Core.Path.{refl}
 use native.Mathlib.Omega.{arith}
-use lib.ListN.{length-set}
-use denote.Ref.{now}
-use Rattle.benchlog.proofs.Places.{put-first, put-store}
-use Rattle.text.proofs.Texts.{pushed}
+use Rattle.text.proofs.Texts.{pushed-two}
 use Rattle.text.proofs.write_pins.Statement.{statement}
 use Rattle.text.proofs.write_pins.Tie as tie
 
@@ -13,37 +9,10 @@ write-pins-spec =
     tie.close
     (tie.spec
     (λ c. search needs)
-    (λ c. search needs)
-    (λ c. simp length-set (omega arith))
-    (λ c. search needs)
-    (λ c. simp length-set (omega arith))
-    (λ c. search needs)
-    (λ c. simp length-set (omega arith))
-    (λ c. search needs)
-    (λ c. simp length-set (omega arith))
-    (λ c κs. tt)
-    (λ c. search needs)
-    (λ c. simp length-set (omega arith))
-    (λ c. search needs)
-    (λ c. simp length-set (omega arith))
-    (λ c κs. tt)
-    (λ c. search needs)
-    (λ c. simp length-set (omega arith))
-    (λ c. search needs)
-    (λ c. simp length-set (omega arith))
-    (λ c. search needs)
+    (λ c κs. search needs)
+    (λ c κs. omega arith)
     (λ c. search needs)
     (λ c.
-    let a = c .before .before .before .args in
-    rw (c .before .letter-of .ensures, c .letter-of2 .ensures)
-    (pushed
-    (put-store _
-    (put-store _
-    (put-store _
-    (put-store _
-    (put-store _ (put-store _ (put-store _ (put-store _ (put-first (now (a .out)) (a .at) 112 (omega arith)) (omega arith) refl) (omega arith) refl) (omega arith) refl) (omega arith) refl)
-    (omega arith) refl)
-    (omega arith) refl)
-    (omega arith) refl)
-    (omega arith) refl)
-    refl)))
+    let end = c .before .before in
+    let word = end .before .before .before .before in
+    pushed-two (word .copy-word .ensures) (end .write-letters .ensures)))

@@ -1,0 +1,23 @@
+use native.Mathlib.Omega.{arith}
+use borrow.Author.Needs.{needs}
+use denote.Ref.{now}
+use Rattle.text.specs.Text.{lineWithPins}
+use Rattle.text.proofs.Texts.{length-front, pushed-two}
+use Rattle.text.proofs.write_line_with_pins.Statement.{statement}
+use Rattle.text.proofs.write_line_with_pins.Tie as tie
+
+pub write-line-with-pins-spec : {M : Type 1} → statement M
+unfolding lineWithPins
+write-line-with-pins-spec =
+    tie.close
+    (tie.spec
+    (λ c κs. search needs)
+    (λ c κs.
+    let front = c .before .before .before in
+    let a = front .before .before .before .before .args in
+    omega (arith, length-front (a .number) (a .answer) (now (a .bytes))))
+    (λ c. search needs)
+    (λ c.
+    let end = c .before .before in
+    let front = end .before .before .before .before in
+    pushed-two (front .write-front .ensures) (end .write-letters .ensures)))
