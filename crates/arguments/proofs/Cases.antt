@@ -1,12 +1,14 @@
 -- What words ask for, letter by letter.
 -- Assumes nothing.
+use mathlib.Core.Bool.{true, false}
 use mathlib.Core.List.{[]}
 use mathlib.Core.Path.{_≡_, refl}
 use Rattle.text.specs.Text.{ascii}
 use Rattle.answers.specs.declared.Asked.the-variants.{Stretches, Modes, Samples, Between, Whole}
-use Rattle.arguments.specs.Words.{numberOf, sameWord, byWord, wantedOf}
+use Rattle.arguments.specs.Words.{numberOf, sameWord, byWord, wantedOf, pinsOf}
 use Rattle.arguments.specs.declared.Number.the-variants.{No, Is}
 use Rattle.arguments.specs.declared.Wanted.the-variants.{Wrong, Of}
+use Rattle.arguments.specs.declared.PinsWanted.the-variants as pins
 
 -- the first is FROM, the second TO
 pub from-to : wantedOf 3 (ascii "7") (ascii "12") ≡ Of (Between 7 12)
@@ -45,3 +47,20 @@ largest = refl
 pub too-large : numberOf (ascii "18446744073709551616") ≡ No
 unfolding numberOf
 too-large = refl
+
+-- of the replay: no word asks for no pins, `pins` for them, and no other word for either
+pub plain-replay : pinsOf 1 [] ≡ pins.Of false
+unfolding pinsOf
+plain-replay = refl
+
+pub pins-too : pinsOf 2 (ascii "pins") ≡ pins.Of true
+unfolding pinsOf sameWord
+pins-too = refl
+
+pub another-pin : pinsOf 2 (ascii "pin") ≡ pins.Wrong
+unfolding pinsOf sameWord
+another-pin = refl
+
+pub two-words : pinsOf 3 (ascii "pins") ≡ pins.Wrong
+unfolding pinsOf
+two-words = refl

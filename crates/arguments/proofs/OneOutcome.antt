@@ -5,9 +5,13 @@ use Rattle.laws.specs.Outcome.{Settled}
 use Rattle.laws.proofs.Outcome.{settles, meet}
 use Rattle.arguments.proofs.number_of as number-of
 use Rattle.arguments.proofs.wanted_of as wanted-of
+use Rattle.arguments.proofs.pins_of as pins-of
 
 pub number-of-settled : Settled number-of.ended (λ M. number-of.clauses) (λ M. number-of.spec)
 number-of-settled = settles (λ κs a r r′ s s′ p q. (meet p q, refl))
 
 pub wanted-of-settled : Settled wanted-of.ended (λ M. wanted-of.clauses) (λ M. wanted-of.spec)
 wanted-of-settled = settles (λ κs a r r′ s s′ p q. (meet p q, refl))
+
+pub pins-of-settled : Settled pins-of.ended (λ M. pins-of.clauses) (λ M. pins-of.spec)
+pins-of-settled = settles (λ κs a r r′ s s′ p q. (meet p q, refl))

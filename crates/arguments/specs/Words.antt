@@ -11,6 +11,8 @@ use Rattle.arguments.specs.declared.Number.{Number}
 use Rattle.arguments.specs.declared.Number.the-variants.{No, Is}
 use Rattle.arguments.specs.declared.Wanted.{Wanted}
 use Rattle.arguments.specs.declared.Wanted.the-variants.{Wrong, Of}
+use Rattle.arguments.specs.declared.PinsWanted.{PinsWanted}
+use Rattle.arguments.specs.declared.PinsWanted.the-variants as pins
 
 -- ---- numbers
 -- a decimal digit in ASCII
@@ -59,3 +61,9 @@ wantedOf count first second =
     pick (eqb count 1) (Of Stretches)
     (pick (eqb count 2) (byWord first)
     (pick (eqb count 3) (betweenOf (numberOf first) (numberOf second)) Wrong))
+
+-- of the replay: none behind the program's name, or `pins`; and nothing else
+unfoldable pub pinsOf : ℕ → List ℕ → PinsWanted
+pinsOf count first =
+    pick (eqb count 1) (pins.Of false)
+    (pick (eqb count 2) (pick (sameWord first (ascii "pins")) (pins.Of true) pins.Wrong) pins.Wrong)

@@ -1,7 +1,7 @@
 // What the words behind a program's name ask for. What is not asked for in so many words is not asked for.
 ghost use mathlib.Core.Path.{_≡_};
 ghost use Rattle.text.specs.Text.{ascii};
-ghost use Rattle.arguments.specs.Words.{withDigit, numberOf, sameWord, byWord, betweenOf, wantedOf};
+ghost use Rattle.arguments.specs.Words.{withDigit, numberOf, sameWord, byWord, betweenOf, wantedOf, pinsOf};
 use answers::Asked;
 
 // The number that a word stands for, where it does.
@@ -118,4 +118,34 @@ pub fn wanted_of(count: usize, first: &[u8], second: &[u8]) -> Wanted
         return between(number_of(first), number_of(second));
     }
     Wanted::Wrong
+}
+
+// Whether the pins are asked for, where the words say so.
+pub enum PinsWanted {
+    Wrong,
+    Of(bool),
+}
+
+fn is_pins(word: &[u8]) -> bool
+    ensures { λ r. ⌜ r ≡ sameWord (now (word .entry)) (ascii "pins") ⌝ }
+{
+    check::same(word, b"pins")
+}
+
+// Whether the pins are asked for behind every line of a replay: by so many words, of which the program's name is one, and by the one
+// behind it.
+pub fn pins_of(count: usize, first: &[u8]) -> PinsWanted
+    ensures { λ r. ⌜ r ≡ pinsOf count (now (first .entry)) ⌝ }
+{
+    if count == 1 {
+        return PinsWanted::Of(false);
+    }
+    if count == 2 {
+        return if is_pins(first) {
+            PinsWanted::Of(true)
+        } else {
+            PinsWanted::Wrong
+        };
+    }
+    PinsWanted::Wrong
 }
