@@ -76,8 +76,8 @@ kind-kept j l last room = go (j .answers) refl
     go false e = rw (← in-kind false j e, replay-run j l last room)
 
 -- ---- whole logs
-pub replay-printed : (log : List ℕ) → printedFrom worker toReplay log ≡ replay.printed log
-replay-printed log = printed-image replayer worker (replayJob (answer.start Stretches)) (replay-alike (answer.start Stretches)) replay.start log
+pub replay-printed : (pins : Bool) (log : List ℕ) → printedFrom worker (toReplay pins) log ≡ replay.printed pins log
+replay-printed pins log = printed-image replayer worker (replayJob (answer.start Stretches)) (replay-alike (answer.start Stretches)) (replay.start pins) log
 
 pub answer-printed : (asked : Asked) (log : List ℕ) → printedFrom worker (toAnswer asked) log ≡ answer.printed asked log
-answer-printed asked log = printed-image answerer worker (answerJob replay.start) (answer-alike replay.start) (answer.start asked) log
+answer-printed asked log = printed-image answerer worker (answerJob (replay.start false)) (answer-alike (replay.start false)) (answer.start asked) log

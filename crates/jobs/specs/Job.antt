@@ -25,11 +25,11 @@ abbrev pub inKind : Bool → Job → Job
 inKind answers j = record { answers = answers; replay = j .replay; answering = j .answering }
 
 -- before the version byte
-abbrev pub toReplay : Job
-toReplay = replayJob (answer.start Stretches) replay.start
+abbrev pub toReplay : Bool → Job
+toReplay pins = replayJob (answer.start Stretches) (replay.start pins)
 
 abbrev pub toAnswer : Asked → Job
-toAnswer asked = answerJob replay.start (answer.start asked)
+toAnswer asked = answerJob (replay.start false) (answer.start asked)
 
 abbrev pub worker : Teller
 worker = record {

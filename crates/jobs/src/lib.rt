@@ -35,13 +35,13 @@ fn record_before(number: u64) -> u64
 }
 
 impl Job {
-    // The replay of a log, before its version byte.
-    pub fn to_replay() -> Self
-        ensures { λ r. ⌜ r ≡ toReplay ⌝ }
+    // The replay of a log, before its version byte. pins says whether the pins stand behind every record's line.
+    pub fn to_replay(pins: bool) -> Self
+        ensures { λ r. ⌜ r ≡ toReplay pins ⌝ }
     {
         Job {
             answers: false,
-            replay: Replay::start(),
+            replay: Replay::start(pins),
             answering: Answering::start(Asked::Stretches),
         }
     }
@@ -52,7 +52,7 @@ impl Job {
     {
         Job {
             answers: true,
-            replay: Replay::start(),
+            replay: Replay::start(false),
             answering: Answering::start(asked),
         }
     }

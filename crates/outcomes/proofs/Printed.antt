@@ -36,12 +36,12 @@ use Rattle.device.specs.Sample.{cycleOf}
 use Rattle.device.specs.Clock.{clockOf}
 use Rattle.benchlog.specs.Format.{lengthOfKind}
 use Rattle.benchlog.specs.Reader.{entryOf, foundIn, readHead, readVersion}
-use Rattle.text.specs.Text.{lastDigits, decimal, line}
+use Rattle.text.specs.Text.{lastDigits, decimal, line, lineWithPins}
 use Rattle.follow.specs.Whole.{linesOf, printedFrom}
 use Rattle.entries.specs.Entries.{eventOf}
 use Rattle.playback.specs.Replay.{start, printed}
 use Rattle.outcomes.specs.PrintedCases.{printedCases}
 
-pub printed-cases : map (λ c. printed (c .log)) printedCases ≡ map (λ c. c .text) printedCases
-unfolding bit zeros firstOrZeros movedForward rangeOf latchOf modeOf axesOf listed reservedAddresses lineOf refusedBits rowOf rowAt resetBytes reservedCode notModelled lackAt answerAt readAnswer deedsOf judgement flatPushed flatRead bytesRead pushedIn readIn bytesIn countIn noFrames code byteAt afterRead slopesTo firstOver pointOf overRun calmRun afterOver afterCalm afterSample lapseOf clocked restarted detectorsSampled detectorsClocked detectorsWritten statusesOf statusByte device.powerUp firstBytes shownByte byteFrom afterSingles singleBytes readOf written writeOf sampleAnswer afterAccepted sampleOf cycleOf clockOf isActive pinLevel pinsOf lengthOfKind entryOf foundIn readHead readVersion lastDigits decimal line start eventOf linesOf printedFrom
+pub printed-cases : map (λ c. printed (c .pins) (c .log)) printedCases ≡ map (λ c. c .text) printedCases
+unfolding bit zeros firstOrZeros movedForward rangeOf latchOf modeOf axesOf listed reservedAddresses lineOf refusedBits rowOf rowAt resetBytes reservedCode notModelled lackAt answerAt readAnswer deedsOf judgement flatPushed flatRead bytesRead pushedIn readIn bytesIn countIn noFrames code byteAt afterRead slopesTo firstOver pointOf overRun calmRun afterOver afterCalm afterSample lapseOf clocked restarted detectorsSampled detectorsClocked detectorsWritten statusesOf statusByte device.powerUp firstBytes shownByte byteFrom afterSingles singleBytes readOf written writeOf sampleAnswer afterAccepted sampleOf cycleOf clockOf isActive pinLevel pinsOf lengthOfKind entryOf foundIn readHead readVersion lastDigits decimal line lineWithPins start eventOf linesOf printedFrom
 printed-cases = refl

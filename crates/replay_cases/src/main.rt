@@ -22,7 +22,7 @@ fn case(n: u16) -> bool {
     }
     show::text(&name);
     show::text(b"\n");
-    stream::pump_replay(fd, STDOUT_FILENO);
+    stream::pump_replay(fd, STDOUT_FILENO, false);
     libc::close(fd);
     true
 }

@@ -78,8 +78,9 @@ pub pump-prints : (j : Job) (parts : List (List ℕ)) {buffer text : List ℕ} �
 unfolding unused
 pump-prints j parts {buffer} some t = any-division worker works j parts (turns-pumped some t)
 
-pub replay-prints : (parts : List (List ℕ)) {buffer text : List ℕ} → NoneEmpty parts → Turns (pumpStart toReplay) buffer parts text → text ≡ replay.printed (joined parts)
-replay-prints parts some t = pump-prints toReplay parts some t ∙ replay-printed (joined parts)
+pub replay-prints : (pins : Bool) (parts : List (List ℕ)) {buffer text : List ℕ} → NoneEmpty parts → Turns (pumpStart (toReplay pins)) buffer parts text
+    → text ≡ replay.printed pins (joined parts)
+replay-prints pins parts some t = pump-prints (toReplay pins) parts some t ∙ replay-printed pins (joined parts)
 
 pub answer-prints : (asked : Asked) (parts : List (List ℕ)) {buffer text : List ℕ} → NoneEmpty parts → Turns (pumpStart (toAnswer asked)) buffer parts text
     → text ≡ answer.printed asked (joined parts)

@@ -195,9 +195,9 @@ fn pump(input: i32, output: i32, answers: bool, job: Job) -> Ended
     }
 }
 
-// The replay of the log at one descriptor, written to another.
-pub fn pump_replay(input: i32, output: i32) -> Ended {
-    pump(input, output, false, Job::to_replay())
+// The replay of the log at one descriptor, written to another. pins says whether the pins stand behind every record's line.
+pub fn pump_replay(input: i32, output: i32, pins: bool) -> Ended {
+    pump(input, output, false, Job::to_replay(pins))
 }
 
 // The answer to what is asked of the log at one descriptor, written to another.
