@@ -3,6 +3,8 @@
 # reads this. Nothing outside the checkout is written, nothing of the current folder is run, and the caller's locale changes nothing.
 LC_ALL=C
 export LC_ALL
+at_once() { set -s && trap : INT && trap - INT; } # dash catches INT and waits for what it started, but not with this option of its own
+[ -n "${BASH_VERSION:-}" ] || at_once 2>/dev/null
 true 9>&2 || exec 2>/dev/null # a closed standard error: else the next file that is opened would get what is said
 
 # Text with what a terminal could take for a command, or cannot show, as \xHH: control characters, marks that turn the direction of
