@@ -312,7 +312,7 @@ tie() { # HOW COMMAND..: in a shell of its own, which becomes COMMAND. HOW is se
     shift
     if [ "$how_tied" = setpriv ]; then exec "$setpriv" --pdeathsig KILL /bin/sh -c "$tied" $$ "$@" 5>&2 2>/dev/null; fi
     if { IFS= read -r fields </proc/self/stat; } 2>/dev/null; then
-        guard "${fields%% *}" </dev/null >/dev/null 2>&1 3>&- 4>&- 5>&- 6>&- 7>&- 8>&- 9>&- &
+        (exec </dev/null >/dev/null 2>&1 3>&- 4>&- 5>&- 6>&- 7>&- 8>&- 9>&-; guard "${fields%% *}" ) &
         printf 'g%s ' $! 2>/dev/null >&3
     fi
     exec "$@"
@@ -365,11 +365,11 @@ run() { # ARG..
     watch_log
     by=guard
     if [ -n "$setpriv" ] && is_command; then by=setpriv; fi
-    { digit=$(start "$@" 3>&1 >&4 4>&-); } 4>&1
+    { digit=$(exec 3>&1 >&4 4>&-; start "$@"); } 4>&1
     ended=$?
     if [ "$by" = setpriv ] && [ -z "$digit" ]; then # one that cannot tie: nothing was started
         setpriv= by=guard
-        { digit=$(start "$@" 3>&1 >&4 4>&-); } 4>&1
+        { digit=$(exec 3>&1 >&4 4>&-; start "$@"); } 4>&1
         ended=$?
     fi
     case $digit in g*) digit=${digit#g}; kill "${digit%% *}" 2>/dev/null; digit=${digit#* } ;; t*) digit=${digit#t} ;; esac
