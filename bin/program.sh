@@ -7,29 +7,10 @@ at_once() { set -s && trap : INT && trap - INT; } # dash catches INT and waits f
 [ -n "${BASH_VERSION:-}" ] || at_once 2>/dev/null
 true 9>&2 || exec 2>/dev/null # a closed standard error: else the next file that is opened would get what is said
 
-# Text with what a terminal could take for a command, or cannot show, as \xHH: control characters, marks that turn the direction of
-# writing, and bytes that are no UTF-8.
+# Text with what a terminal could take for a command, or cannot show, as \xNN: see bin/names.awk. Before the checkout is found, as ?.
+top=
 harmless() { # TEXT
-    TEXT=$1 awk '
-    function at(i) { return code[substr(s, i, 1)] + 0 }
-    function rest(i, low, high) { return at(i) >= low && at(i) <= high } # whether a byte inside a character is there
-    function good(i, c) { # how many bytes of a character are there that can be shown
-        c = at(i)
-        if (c >= 32 && c <= 126) return 1
-        if (c >= 194 && c <= 223) return rest(i + 1, c == 194 ? 160 : 128, 191) ? 2 : 0
-        if (c == 226 && at(i + 1) == 128 && rest(i + 2, 168, 174) || c == 226 && at(i + 1) == 129 && rest(i + 2, 166, 169)) return 0
-        if (c >= 224 && c <= 239) return rest(i + 1, c == 224 ? 160 : 128, c == 237 ? 159 : 191) && rest(i + 2, 128, 191) ? 3 : 0
-        if (c >= 240 && c <= 244) return rest(i + 1, c == 240 ? 144 : 128, c == 244 ? 143 : 191) && rest(i + 2, 128, 191) && rest(i + 3, 128, 191) ? 4 : 0
-        return 0
-    }
-    BEGIN {
-        for (i = 1; i < 256; i++) code[sprintf("%c", i)] = i
-        s = ENVIRON["TEXT"]
-        for (i = 1; i <= length(s); i += wide) {
-            if ((wide = good(i))) printf "%s", substr(s, i, wide)
-            else { printf "\\x%02X", at(i); wide = 1 }
-        }
-    }'
+    if [ -n "$top" ]; then TEXT=$1 awk -v alone=yes -f "$top/bin/names.awk"; else printf '%s' "$1" | tr -c ' -~' '?'; fi
 }
 say() {
     case $* in *[!\ -~]*) set -- "$(harmless "$*")" ;; esac
