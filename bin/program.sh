@@ -275,16 +275,17 @@ end_tree() ( # PID GUARD: it and all below it but the guard; each is stopped fir
     kill -s KILL "$1"
 ) 2>/dev/null
 guard() { # PID, of what it was started by
+    watched=$1 pause=0.2
     trap '' INT HUP
-    trap 'kill $!' TERM # to look at once
-    while parent "$1"; do
+    trap 'kill ${!:-} 2>/dev/null; parent "$watched" || exit' TERM # to look at once
+    while parent "$watched"; do
         if ! runs $$; then
             IFS= read -r fields </proc/self/stat
-            end_tree "$1" "${fields%% *}"
+            end_tree "$watched" "${fields%% *}"
             exit
         fi
-        { sleep 0.2 || sleep 1; } &
-        wait $!
+        sleep "$pause" &
+        wait $! || pause=1 # a sleep that knows whole seconds alone
     done
 }
 tied='[ "$PPID" = "$0" ] || exit 137; printf t >&3; exec "$@" 2>&5 5>&-' # the command could have ended before the tie was made
@@ -293,7 +294,8 @@ tie() { # HOW COMMAND..: in a shell of its own, which becomes COMMAND. HOW is se
     shift
     if [ "$how_tied" = setpriv ]; then exec "$setpriv" --pdeathsig KILL /bin/sh -c "$tied" $$ "$@" 5>&2 2>/dev/null; fi
     if { IFS= read -r fields </proc/self/stat; } 2>/dev/null; then
-        (exec </dev/null >/dev/null 2>&1 3>&- 4>&- 5>&- 6>&- 7>&- 8>&- 9>&-; guard "${fields%% *}" ) &
+        # by exec, since the shell would keep a copy of what it redirects for one call, and the guard would hold the pipes open
+        (exec </dev/null >/dev/null 2>&1 3>&- 4>&- 5>&- 6>&- 7>&- 8>&- 9>&-; guard "${fields%% *}") &
         printf 'g%s ' $! 2>/dev/null >&3
     fi
     exec "$@"
