@@ -10,6 +10,7 @@ use lib.Dec.{eqb}
 use lib.ListN.{length}
 use Rattle.laws.specs.Bits.{worth}
 use Rattle.codes.specs.Mode.{modeOf}
+use Rattle.codes.specs.declared.Mode.{Mode}
 use Rattle.events.specs.Event.{Event, powerUp, write, read, sample, cycle, clock, happens}
 use Rattle.events.specs.Run.{after}
 use Rattle.history.specs.Chip.{sampled}
@@ -52,6 +53,10 @@ pub samples-whole : (es : List Event) (begun : Bool) (refusal : ℕ) → length 
 samples-whole es begun refusal room = rw (samples-told es room, rest-line true begun es refusal)
 
 -- ---- which sample a line names as lost
+-- "Where LOST is 0, BACK is 0"
+pub none-named : (m : Mode) (many : ℕ) → backOf 0 m many ≡ 0
+none-named m many = refl
+
 -- a line's LOST is 0; or it is 1, and the sample so many before it as its BACK says was held, and is lost
 pub lost-named : (es : List Event) (e : Event) (f : List ℕ) → saysHere es e ≡ sampled f
     → let lost = countsOf (e ∷ es) .lost - countsOf es .lost in

@@ -9,10 +9,11 @@ use Rattle.codes.specs.declared.Range.{Range}
 use Rattle.codes.specs.declared.Range.the-variants.{G2, G4, G8, G16}
 use Rattle.text.specs.Text.{ascii, decimal, lastDigits}
 use Rattle.counts.specs.declared.Account.{Account}
+use Rattle.counts.specs.declared.Doubt.{Doubt}
 use Rattle.counts.specs.declared.Doubt.the-variants.{No, By}
 use Rattle.counts.specs.declared.Why.the-variants.{Nothing, Readout, Refused, Reset}
 use Rattle.counts.specs.declared.Why.the-variants as why
-use Rattle.wording.specs.Wording.{stretchColumns, stretchLine, modedLine, lastLine, signedColumn, sampleLine, wroteText, refusedLine, rangeLine, modeLine, totalsLine, shortLine, overLine}
+use Rattle.wording.specs.Wording.{stretchColumns, stretchLine, modedLine, lastLine, signedColumn, sampleLine, wroteText, refusedLine, rangeLine, modeLine, totalsLine, lostLine, noReadoutLine, shortLine, overLine}
 
 abbrev pub with-both : Range → Mode → Account
 with-both r m = record {
@@ -33,15 +34,25 @@ with-mode m = with-both G2 m
 abbrev pub early : Account
 early = with-range G2
 
-abbrev pub late : Account
-late = record {
+abbrev pub doubting : Doubt → Doubt → Account
+doubting ofRange ofMode = record {
   number = 35;
   counts = record { accepted = 101; taken = 202; lost = 303; cleared = 404; refused = 505; readouts = 606 };
-  doubts = record { range = By 2 0x07; mode = By 3 0xC1 };
+  doubts = record { range = ofRange; mode = ofMode };
   range = G16;
   mode = Stream;
   held = 32;
 }
+
+abbrev pub late : Account
+late = doubting (By 2 0x07) (By 3 0xC1)
+
+-- with one of them in doubt
+abbrev pub range-doubted : Account
+range-doubted = doubting (By 2 0x07) No
+
+abbrev pub mode-doubted : Account
+mode-doubted = doubting No (By 3 0xC1)
 
 -- "FROM TO RANGE ACCEPTED TAKEN LOST CLEARED HELD REFUSED WHY"
 pub stretch : stretchLine early late late Readout ≡ ascii "11 35 16g? 1 2 3 4 32 5 readout\n"
@@ -79,6 +90,15 @@ pub moded-fifo : modedLine early (with-mode Fifo) late Reset ≡ ascii "11 35 2g
 unfolding stretchColumns modedLine decimal lastDigits
 moded-fifo = refl
 
+-- each `?` is by the doubt of what it stands behind
+pub moded-range-doubted : modedLine early range-doubted late Readout ≡ ascii "11 35 16g? 1 2 3 4 32 5 readout STREAM\n"
+unfolding stretchColumns modedLine decimal lastDigits
+moded-range-doubted = refl
+
+pub moded-mode-doubted : modedLine early mode-doubted late Readout ≡ ascii "11 35 16g 1 2 3 4 32 5 readout STREAM?\n"
+unfolding stretchColumns modedLine decimal lastDigits
+moded-mode-doubted = refl
+
 pub ended : lastLine true 35 0 ≡ ascii "end 35\n"
 unfolding lastLine decimal lastDigits
 ended = refl
@@ -107,9 +127,17 @@ pub no-doubt : rangeLine early ≡ ascii "from record 11: 2g\n"
 unfolding rangeLine decimal lastDigits
 no-doubt = refl
 
+pub no-doubt-of-range : rangeLine mode-doubted ≡ ascii "from record 36: 16g\n"
+unfolding rangeLine decimal lastDigits
+no-doubt-of-range = refl
+
 pub mode-in-doubt : modeLine late ≡ ascii "from record 36: STREAM?, 32 frames, because record 3 wrote C1 to 3E and was refused\n"
 unfolding modeLine wroteText decimal lastDigits
 mode-in-doubt = refl
+
+pub no-doubt-of-mode : modeLine range-doubted ≡ ascii "from record 36: STREAM, 32 frames\n"
+unfolding modeLine decimal lastDigits
+no-doubt-of-mode = refl
 
 pub bypass : modeLine early ≡ ascii "from record 11: BYPASS, 1 frame\n"
 unfolding modeLine decimal lastDigits
@@ -126,6 +154,12 @@ a-refusal = refl
 pub totals : totalsLine early late ≡ ascii "records 11 to 35: 1 accepted, 2 taken, 3 lost, 4 cleared, 7 held before, 32 held after, 5 refused\n"
 unfolding totalsLine decimal lastDigits
 totals = refl
+
+pub of-lost : lostLine ≡ ascii "lost: no readout of the FIFO (a read at 3F) can give them; a read of 02 to 07 is no readout\n"
+of-lost = refl
+
+pub none-came : noReadoutLine ≡ ascii "in these records no readout came\n"
+none-came = refl
 
 pub short : shortLine 9 35 40 ≡ ascii "the log was refused 9 after record 35; what came up to record 40 is not known\n"
 unfolding shortLine decimal lastDigits
