@@ -57,7 +57,7 @@ stamped() { behind "$1"; printf '%s\n' "$value"; } # WORD: the same, printed
 
 # The kit: that of the command rt, or the one that was built with where there is no rt, or where its rt is the same.
 behind 'kit at'
-kit=$value
+kit=$value stamped_kit=$value
 if [ -n "${RATTLE_HOME:-}" ] && [ -n "$rt" ]; then kit=$RATTLE_HOME; fi
 if [ -n "$rt" ] && [ -z "${RATTLE_HOME:-}" ] && ! [ "$kit/bin/rt" -ef "$rt" ]; then rt=$(readlink -f "$rt") kit=${rt%/*/*}; fi
 [ -f "$kit/KIT-ID" ] || kit=
@@ -96,13 +96,16 @@ sums() { # SOURCES
     [ -z "$kit" ] || { echo "kit $(cat "$kit/KIT-ID")"; echo "kit at $kit"; }
 }
 
-# To sum it all at each call would take longer than most replays. So a file keeps the size and the time of the last change of all that counts,
-# and of the folders, as they were before the sums were found to fit. That time cannot be set back, and what was changed in
-# the last two seconds is not kept, since a second change could leave the same time: where they are the same, so is what is in the files.
+# To sum it all at each call would take longer than most replays. So a file keeps the size and the time of the last change of all that
+# counts, and of the folders, as they were before the sums were found to fit. That time cannot be set back, and what was changed in the
+# last two seconds is not kept, since a second change could leave the same time: where they are the same, so is what is in the files.
 states() { stat -c '%s %.9Z' "$@" "$made" "$stamp" "$kit/KIT-ID"; } # in crates/
 same_states() ( # a shell of its own, which a damaged file may end
     [ -f "$touched" ] && cd "$top/crates" && . "$touched" && set -f && [ "$(states $names)" = "$states" ]
 ) 2>/dev/null
+same_kit() {
+    { IFS= read -r id <"$kit/KIT-ID"; } 2>/dev/null && [ "$kit" = "$stamped_kit" ] && behind kit && [ "$value" = "$id" ]
+}
 states_now() (
     now=$(date +%s) && cd "$top" && names=$({ find -H $(folders) -name must-fail -prune -o -type d -print; counted -print; } | sed 's|^crates/||' | sort) || exit
     names="../crates.txt $names"
@@ -117,7 +120,7 @@ keep_states() { # as states_now printed them; where target cannot be written, th
 }
 fits() {
     [ -f "$made" ] && [ -f "$stamp" ] || return 1
-    same_states && return 0
+    same_kit && same_states && return 0
     latest=$(states_now)
     [ "$(sums "$(sources_now)")" = "$(sed '/^version /d; /^commit /d' "$stamp")" ] && [ -n "$(stamped version)" ] && keep_states "$latest"
 }
@@ -149,19 +152,19 @@ without_rt() {
 # One command at a time proves. With flock the lock is the kernel's and goes with the last process that has it, rt's among them; without
 # it, a folder with the number of the process that made it, which counts while that process runs.
 holder() { { IFS= read -r who <"$lock"; } 2>/dev/null || who='another command'; say "waiting for $who, which proves and builds in target/"; }
-number_in() { number= && { read -r number <"$1/number"; } 2>/dev/null; }
+holder_in() { held_by= && { read -r held_by <"$1/number"; } 2>/dev/null; }
 lock_folder() {
     waited=
     until mkdir "$lock.d" 2>/dev/null; do
-        number_in "$lock.d" || { sleep 1; number_in "$lock.d"; } # it may just be being made
-        if runs "${number:-none}"; then
+        holder_in "$lock.d" || { sleep 1; holder_in "$lock.d"; } # it may just be being made
+        if runs "${held_by:-none}"; then
             [ -n "$waited" ] || holder
             waited=yes
             sleep 1
         elif mv "$lock.d" "$lock.d.$$" 2>/dev/null; then # left behind, or else another's, made meanwhile
-            stale=$number
-            number_in "$lock.d.$$"
-            if [ "$number" = "$stale" ]; then rm -rf "$lock.d.$$"; else mv "$lock.d.$$" "$lock.d"; fi
+            stale=$held_by
+            holder_in "$lock.d.$$"
+            if [ "$held_by" = "$stale" ]; then rm -rf "$lock.d.$$"; else mv "$lock.d.$$" "$lock.d"; fi
         fi
     done
     echo $$ >"$lock.d/number"
@@ -172,7 +175,7 @@ take_lock() { # descriptor 8
     fi
     lock_folder
 }
-leave_lock() { if number_in "$lock.d" && [ "$number" = $$ ]; then rm -rf "$lock.d"; fi; }
+leave_lock() { if holder_in "$lock.d" && [ "$held_by" = $$ ]; then rm -rf "$lock.d"; fi; }
 
 # On standard error, which crate was proved, how many are left and how long it took so far. What rt prints comes in, and its status behind it.
 progress() { # HOW MANY
@@ -225,10 +228,10 @@ build_alone() {
     many=$(crates_of "$crate" | wc -l)
     say "proving and building the $what and the $((many - 1)) crates below it; the first time takes some minutes"
     other_kit
-    sources=$(sources_now) commit=$(commit_now) number=$(product)
+    sources=$(sources_now) commit=$(commit_now) made_as=$(product)
     proof "$many" || { not_built "it is not proved: target/$crate.log says why"; return; }
     [ "$sources" = "$(sources_now)" ] || { not_built "the sources were changed while they were proved"; return; }
-    { { sums "$sources"; echo "version $number"; echo "commit $commit"; } >"$stamp.$$" && mv -f "$stamp.$$" "$stamp"; } 2>/dev/null && rm -f "$kept" && return
+    { { sums "$sources"; echo "version $made_as"; echo "commit $commit"; } >"$stamp.$$" && mv -f "$stamp.$$" "$stamp"; } 2>/dev/null && rm -f "$kept" && return
     say "$top/target cannot be written"
     return 1
 }
@@ -304,7 +307,7 @@ start() { # ARG..
     set -- "$made" "$@"
     if [ -x "$tools/lib/ld-linux-x86-64.so.2" ]; then set -- "$tools/lib/ld-linux-x86-64.so.2" --library-path "$tools/lib" "$@"; fi
     if [ -x "$tools/bin/qemu-x86_64" ]; then set -- "$tools/bin/qemu-x86_64" "$@"; fi
-    tie "${by:-guard}" "$@"
+    tie "${tied_by:-guard}" "$@"
 }
 
 # How far a long log is, on standard error where that is a terminal and the text goes elsewhere: a line that is written anew each second
@@ -346,12 +349,12 @@ unwatch() {
 # The program on standard input. What it writes to descriptor 3 is its digit, the status, behind what `tie` wrote there.
 run() { # ARG..
     watch_log
-    by=guard
-    if [ -n "$setpriv" ] && is_command; then by=setpriv; fi
+    tied_by=guard
+    if [ -n "$setpriv" ] && is_command; then tied_by=setpriv; fi
     { digit=$(exec 3>&1 >&4 4>&-; start "$@"); } 4>&1
     ended=$?
-    if [ "$by" = setpriv ] && [ -z "$digit" ]; then # one that cannot tie: nothing was started
-        setpriv= by=guard
+    if [ "$tied_by" = setpriv ] && [ -z "$digit" ]; then # one that cannot tie: nothing was started
+        setpriv= tied_by=guard
         { digit=$(exec 3>&1 >&4 4>&-; start "$@"); } 4>&1
         ended=$?
     fi
