@@ -39,6 +39,28 @@ pub another-word : wantedOf 2 (ascii "sample") [] ≡ Wrong
 unfolding wantedOf byWord sameWord
 another-word = refl
 
+-- "Any other words": none, and one more than FROM TO
+pub no-name : wantedOf 0 [] [] ≡ Wrong
+unfolding wantedOf
+no-name = refl
+
+pub word-too-many : wantedOf 4 (ascii "7") (ascii "12") ≡ Wrong
+unfolding wantedOf numberOf
+word-too-many = refl
+
+-- no digit at all, and the characters beside the digits
+pub no-digit : numberOf [] ≡ No
+unfolding numberOf
+no-digit = refl
+
+pub before-0 : numberOf (ascii "1/") ≡ No
+unfolding numberOf
+before-0 = refl
+
+pub behind-9 : numberOf (ascii "1:") ≡ No
+unfolding numberOf
+behind-9 = refl
+
 -- 64 bits, and one more
 pub largest : numberOf (ascii "18446744073709551615") ≡ Is 18446744073709551615
 unfolding numberOf
