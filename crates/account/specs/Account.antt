@@ -9,7 +9,7 @@ use Rattle.registers.specs.Answers.{accepted}
 use Rattle.registers.specs.Deeds.{isReset}
 use Rattle.registers.specs.declared.Answer.{Answer}
 use Rattle.events.specs.Event.{Event, powerUp, write, read, sample, cycle, clock}
-use Rattle.counts.specs.Counts.{sum, less, left, readOut, arrived, noDoubts, accountMoved}
+use Rattle.counts.specs.Counts.{sum, less, left, withReadouts, arrived, noDoubts, accountMoved}
 use Rattle.counts.specs.declared.Account.{Account}
 use Rattle.counts.specs.declared.Counts.{Counts}
 use Rattle.counts.specs.declared.Doubt.{Doubt}
@@ -33,7 +33,7 @@ readoutsBy address a = pick (both (eqb address framesAt) (accepted a)) 1 0
 unfoldable pub countsAfter : Counts → Event → Answer → ℕ → ℕ → Counts
 countsAfter c powerUp a before behind = left c 0 (less before behind) (refusedBy a)
 countsAfter c (write address byte) a before behind = left c 0 (less before behind) (refusedBy a)
-countsAfter c (read address n) a before behind = readOut (left c (less before behind) 0 (refusedBy a)) (readoutsBy address a)
+countsAfter c (read address n) a before behind = withReadouts (left c (less before behind) 0 (refusedBy a)) (readoutsBy address a)
 countsAfter c (sample x y z temperature) a before behind = pick (accepted a) (arrived c (less (sum before 1) behind)) (left c 0 0 1)
 countsAfter c cycle a before behind = left c 0 0 (refusedBy a)
 countsAfter c (clock us) a before behind = left c 0 0 (refusedBy a)

@@ -53,8 +53,8 @@ left c taken cleared refused = record {
 }
 
 -- with so many readouts more
-abbrev pub readOut : Counts → ℕ → Counts
-readOut c readouts = record {
+abbrev pub withReadouts : Counts → ℕ → Counts
+withReadouts c readouts = record {
   accepted = c .accepted;
   taken = c .taken;
   lost = c .lost;

@@ -2,7 +2,7 @@
 // refused, and readouts; the range and the FIFO's mode in force, and whether each is in doubt; and why a stretch of events ends. It rests
 // on no device: who steps it gives what changed.
 ghost use mathlib.Core.Path.{_≡_};
-ghost use Rattle.counts.specs.Counts.{noCounts, noDoubts, firstAccount, sum, less, left, readOut, differences, accountMoved, arrived, ends, isSameDoubt, isSameRange, isSameMode, inG, modeBits, backOf};
+ghost use Rattle.counts.specs.Counts.{noCounts, noDoubts, firstAccount, sum, less, left, withReadouts, differences, accountMoved, arrived, ends, isSameDoubt, isSameRange, isSameMode, inG, modeBits, backOf};
 use codes::Mode;
 use codes::Range;
 use laws::both;
@@ -119,7 +119,7 @@ impl Counts {
 
     // With so many readouts more.
     pub fn with_readouts(self, readouts: u64) -> Self
-        ensures { λ r. ⌜ r ≡ readOut self readouts ⌝ }
+        ensures { λ r. ⌜ r ≡ withReadouts self readouts ⌝ }
     {
         Counts {
             accepted: self.accepted,

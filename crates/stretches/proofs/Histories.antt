@@ -201,7 +201,7 @@ module _ (es : List Event) (e : Event) where
     -- what it takes and clears away, with k readouts more
     read-is : (out away k : ℕ) → countsOf (e ∷ es) .accepted ≡ countsOf es .accepted → countsOf (e ∷ es) .taken ≡ countsOf es .taken + out
         → countsOf (e ∷ es) .lost ≡ countsOf es .lost → countsOf (e ∷ es) .cleared ≡ countsOf es .cleared + away
-        → readoutsIn (e ∷ es) ≡ readoutsIn es + k → counts.readOut (left (countsOf es) out away (refusedBy answer)) k ≡ countsOf (e ∷ es)
+        → readoutsIn (e ∷ es) ≡ readoutsIn es + k → counts.withReadouts (left (countsOf es) out away (refusedBy answer)) k ≡ countsOf (e ∷ es)
     read-is out away k a t l c r =
         let few = bounded (e ∷ es) in
         λ i. record {
@@ -234,14 +234,14 @@ module _ (es : List Event) (e : Event) where
         left-is 0 (less heldBefore heldBehind) (ap (λ n. n .accepted) t) (omega (arith, ap (λ n. n .taken) t)) (ap (λ n. n .lost) t) (omega (arith, ap (λ n. n .clearedAway) t, gone)) r
 
     read-counts : (n k : ℕ) → saysHere es e ≡ readOut n → readoutsIn (e ∷ es) ≡ readoutsIn es + k
-        → counts.readOut (left (countsOf es) (less heldBefore heldBehind) 0 (refusedBy answer)) k ≡ countsOf (e ∷ es)
+        → counts.withReadouts (left (countsOf es) (less heldBefore heldBehind) 0 (refusedBy answer)) k ≡ countsOf (e ∷ es)
     read-counts n k q r =
         let t = next-totals accelerometer es e (readOut n) q in
         let gone : less heldBefore heldBehind ≡ min heldBefore (begun (setting es .size) n) = omega (arith, held-read n q, bounded es .held) in
         read-is (less heldBefore heldBehind) 0 k (ap (λ n. n .accepted) t) (omega (arith, ap (λ n. n .taken) t, gone)) (ap (λ n. n .lost) t) (omega (arith, ap (λ n. n .clearedAway) t)) r
 
     unread-counts : (k : ℕ) → saysHere es e ≡ nothing → readoutsIn (e ∷ es) ≡ readoutsIn es + k
-        → counts.readOut (left (countsOf es) (less heldBefore heldBehind) 0 (refusedBy answer)) k ≡ countsOf (e ∷ es)
+        → counts.withReadouts (left (countsOf es) (less heldBefore heldBehind) 0 (refusedBy answer)) k ≡ countsOf (e ∷ es)
     unread-counts k q r =
         let t = next-totals accelerometer es e nothing q in
         let gone : less heldBefore heldBehind ≡ 0 = omega (arith, held-same q, bounded es .held) in

@@ -24,9 +24,9 @@ use Rattle.stretches.proofs.Histories.{differences-are}
 use Rattle.stretches.proofs.Stretches.{lastEnd-part, sums, each-differs}
 use Rattle.wording.specs.Wording.{rangeLine, modeLine, shortLine, overLine, lineText}
 use Rattle.wording.specs.declared.Line.the-variants as line
-use Rattle.answers.specs.Answer.{inForceText, refusedOf, totalsText, insideText, wordsText, lastNumber, recordText}
+use Rattle.answers.specs.Answer.{inForceText, refusedOf, totalsWords, insideText, wordsText, lastNumber, recordText}
 use Rattle.told.specs.Histories.{markOf, toldOf, endOf}
-use Rattle.told.specs.Plain.{columnsOf, inForce, refusedBy, changedBy, saidFrom, totalsFrom, Summed}
+use Rattle.told.specs.Plain.{columnsOf, inForce, refusedWrite, changedBy, saidFrom, totalsFrom, Summed}
 use Rattle.answers.specs.declared.Asked.{Asked}
 use Rattle.answers.specs.declared.Asked.the-variants as asked
 use Rattle.told.proofs.Stretches.{added-up-is}
@@ -71,7 +71,7 @@ words-sum later h l k room =
 in-force-is : (h : List Event) → inForceText true true (accountOf h) ≡ inForce h
 in-force-is h = refl
 
-refused-is : (e : Event) (es : List Event) → lineText (refusedOf (suc (length es)) e (happens (after es) e .answer)) ≡ refusedBy e es
+refused-is : (e : Event) (es : List Event) → lineText (refusedOf (suc (length es)) e (happens (after es) e .answer)) ≡ refusedWrite e es
 refused-is powerUp es = refl
 refused-is (write a byte) es = of-pick lineText (accepted (happens (after es) (write a byte) .answer)) line.Nothing _
 refused-is (read a n) es = refl
@@ -92,7 +92,7 @@ changed-is e es = go (isSameRange (accountOf (e ∷ es)) (accountOf es)) (isSame
     go false true = refl
     go false false = refl
 
-totals-are : (h k : List Event) → totalsText (accountOf h) (accountOf k) ≡ totalsFrom h k
+totals-are : (h k : List Event) → totalsWords (accountOf h) (accountOf k) ≡ totalsFrom h k
 totals-are h k =
     let n = differences (accountOf h .counts) (accountOf k .counts) in
     rw (of-pick lineText (eqb (n .lost) 0) line.Nothing line.Lost, of-pick lineText (eqb (n .readouts) 0) line.NoReadout line.Nothing)
@@ -142,7 +142,7 @@ module _ {words : Asked} {from upto : ℕ} (worded : Worded words from upto) whe
         → let es = later ++ h in
         toldOf words (e ∷ es)
         ≡ (toldOf words es ++ firstOf es)
-        ++ (refusedBy e es ++ pick (eqb (suc (length es)) upto) (totalsText (accountOf (markOf words es)) (accountOf (e ∷ es))) (changedBy e es))
+        ++ (refusedWrite e es ++ pick (eqb (suc (length es)) upto) (totalsWords (accountOf (markOf words es)) (accountOf (e ∷ es))) (changedBy e es))
     unfolding insideText
     inside later e room =
         let es = later ++ h in
@@ -163,7 +163,7 @@ module _ {words : Asked} {from upto : ℕ} (worded : Worded words from upto) whe
 
     -- the record upto: what is said before it, its refused write, and the totals
     ended : (later : List Event) (e : Event) → suc (length (later ++ h)) ≡ upto → markOf words (later ++ h) ≡ h
-        → toldOf words (e ∷ (later ++ h)) ≡ saidFrom h later ++ (refusedBy e (later ++ h) ++ totalsFrom h (e ∷ (later ++ h)))
+        → toldOf words (e ∷ (later ++ h)) ≡ saidFrom h later ++ (refusedWrite e (later ++ h) ++ totalsFrom h (e ∷ (later ++ h)))
     ended later e last mark =
         inside later e (omega arith) ∙ rw (eq-eqb _ _ last, mark, totals-are h (e ∷ (later ++ h)), said later (omega arith))
 
@@ -186,7 +186,7 @@ module _ (h : List Event) (upto : ℕ) (some : length h < upto) where
   -- the log comes to the record upto
   pub words-told : (later : List Event) (e : Event) → suc (length (later ++ h)) ≡ upto → (more : List Event) (begun : Bool) (refusal : ℕ)
       → let k = e ∷ (later ++ h) in
-      toldOf behind (more ++ k) ++ endOf behind begun (more ++ k) refusal ≡ saidFrom h later ++ (refusedBy e (later ++ h) ++ totalsFrom h k)
+      toldOf behind (more ++ k) ++ endOf behind begun (more ++ k) refusal ≡ saidFrom h later ++ (refusedWrite e (later ++ h) ++ totalsFrom h k)
   words-told later e last more begun refusal =
       let k = e ∷ (later ++ h) in
       let n : length (more ++ k) ≡ length more + suc (length (later ++ h)) = length-append more k in

@@ -81,8 +81,8 @@ abbrev pub inForce : List Event → List ℕ
 inForce h = rangeLine (accountOf h) ++ modeLine (accountOf h)
 
 -- "each refused write has its line"
-abbrev pub refusedBy : Event → List Event → List ℕ
-refusedBy e es =
+abbrev pub refusedWrite : Event → List Event → List ℕ
+refusedWrite e es =
     let answer = happens (after es) e .answer in
     atWrite [] (λ a byte. pick (accepted answer) [] (refusedLine (suc (length es)) byte a (number answer))) e
 
@@ -95,7 +95,7 @@ changedBy e es =
 -- what is said of the later events, in order
 abbrev pub saidFrom : List Event → List Event → List ℕ
 saidFrom h [] = inForce h
-saidFrom h (e ∷ later) = saidFrom h later ++ (refusedBy e (later ++ h) ++ changedBy e (later ++ h))
+saidFrom h (e ∷ later) = saidFrom h later ++ (refusedWrite e (later ++ h) ++ changedBy e (later ++ h))
 
 -- the totals from h to k; what "lost" is about, where some were lost; and that no readout came, where none did
 abbrev pub totalsFrom : List Event → List Event → List ℕ
