@@ -1,4 +1,4 @@
-// The device of 01: its record, its five events and Q-4's clock, and three questions. Each event takes the record by value and hands it back.
+// The device of 01: its record, its five events and Q-4's clock, and four questions. Each event takes the record by value and hands it back.
 ghost use mathlib.Core.Path.{_≡_};
 ghost use lib.ListN.{length};
 ghost use Rattle.fifo.specs.Flat.{flatAt};

@@ -2,7 +2,7 @@
 -- Assumes nothing.
 use Prim.Native.Nat.{ℕ, zero, suc, _+_}
 use mathlib.Core.Bool.{Bool, true, false}
-use mathlib.Core.List.{List, [], _∷_, _++_}
+use mathlib.Core.List.{List, [], _∷_}
 use mathlib.Core.Option.{some}
 use mathlib.Core.Path.{_≡_, refl, ap, sym, _∙_}
 use native.Mathlib.Omega.{arith}
@@ -14,7 +14,7 @@ use Rattle.laws.specs.Choice.{pick}
 use Rattle.codes.specs.Mode.{modeOf, isReservedMode}
 use Rattle.codes.specs.declared.Mode.{Mode}
 use Rattle.codes.specs.declared.Mode.the-variants.{Bypass, Fifo, Stream, Reserved}
-use Rattle.fifo.specs.Ledger.{Mark, taken, held, lost, heldIn, lostOf, passed, arrives, marks}
+use Rattle.fifo.specs.Ledger.{Mark, taken, held, lost, heldIn, lostOf, passed, arrives}
 use Rattle.fifo.specs.Setting.{depthIn, dropsIn}
 use Rattle.fifo.specs.declared.Drop.{Drop}
 use Rattle.fifo.specs.declared.Drop.the-variants.{Newcomer, Oldest}

@@ -26,7 +26,7 @@ use Rattle.wording.specs.Wording.{rangeLine, modeLine, shortLine, overLine, lin
 use Rattle.wording.specs.declared.Line.the-variants as line
 use Rattle.answers.specs.Answer.{inForceText, refusedOf, totalsWords, insideText, wordsText, lastNumber, recordText}
 use Rattle.told.specs.Histories.{markOf, toldOf, endOf}
-use Rattle.told.specs.Plain.{columnsOf, inForce, refusedWrite, changedBy, saidFrom, totalsFrom, Summed}
+use Rattle.told.specs.Plain.{columnsOf, refusedWrite, changedBy, saidFrom, totalsFrom, Summed}
 use Rattle.answers.specs.declared.Asked.{Asked}
 use Rattle.answers.specs.declared.Asked.the-variants as asked
 use Rattle.told.proofs.Stretches.{added-up-is}
@@ -67,10 +67,7 @@ words-sum later h l k room =
     }
 
 -- ---- the lines
--- what is chosen, line by line: what is in force, a refused write, what changed, and the totals
-in-force-is : (h : List Event) → inForceText true true (accountOf h) ≡ inForce h
-in-force-is h = refl
-
+-- what is chosen, line by line: a refused write, what changed, and the totals
 refused-is : (e : Event) (es : List Event) → lineText (refusedOf (suc (length es)) e (happens (after es) e .answer)) ≡ refusedWrite e es
 refused-is powerUp es = refl
 refused-is (write a byte) es = of-pick lineText (accepted (happens (after es) (write a byte) .answer)) line.Nothing _
@@ -96,9 +93,6 @@ totals-are : (h k : List Event) → totalsWords (accountOf h) (accountOf k) ≡ 
 totals-are h k =
     let n = differences (accountOf h .counts) (accountOf k .counts) in
     rw (of-pick lineText (eqb (n .lost) 0) line.Nothing line.Lost, of-pick lineText (eqb (n .readouts) 0) line.NoReadout line.Nothing)
-
-regroup : (a b c r : List ℕ) → a ++ b ≡ r → a ++ (b ++ c) ≡ r ++ c
-regroup a b c r e = sym (append-assoc a b c) ∙ ap (λ l. l ++ c) e
 
 -- the words between from and upto, where from is below upto: asked so, or of the whole log
 pub record Worded (asked : Asked) (from upto : ℕ) : Type 0 where

@@ -25,7 +25,7 @@ use Rattle.counts.specs.declared.Doubt.{Doubt}
 use Rattle.counts.specs.declared.Doubt.the-variants.{No, By}
 use Rattle.counts.specs.declared.Why.{Why}
 use Rattle.counts.specs.declared.Why.the-variants as why
-use Rattle.wording.specs.Wording.{longestWording, Spelt, rangeColumn, phrase, column, rangeWord, modeWord, doubtSign, whyWord, countsText, stretchColumns, stretchLine, modedLine, stoppedAt, lastLine, signedColumn, sampleLine, wroteText, refusedLine, becauseText, fromText, rangeLine, framesWord, modeLine, totalsText, heldText, totalsLine, endedWord, shortLine, overLine, lineText}
+use Rattle.wording.specs.Wording.{longestWording, Spelt, phrase, column, rangeWord, modeWord, doubtSign, whyWord, countsText, stretchColumns, stretchLine, modedLine, stoppedAt, lastLine, signedColumn, sampleLine, wroteText, refusedLine, becauseText, fromText, rangeLine, framesWord, modeLine, totalsText, heldText, totalsLine, endedWord, shortLine, overLine, lineText}
 use Rattle.wording.specs.declared.Line.{Line}
 use Rattle.wording.specs.declared.Line.the-variants as line
 
