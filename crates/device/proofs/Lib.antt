@@ -2,4 +2,3 @@ pub mod Burst
 pub mod Events
 pub mod Refused
 pub mod Clock
-pub mod Holding

@@ -1,4 +1,5 @@
 pub mod Device
+pub mod Parts
 pub mod Write
 pub mod Show
 pub mod Read

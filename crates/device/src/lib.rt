@@ -1,38 +1,33 @@
 // The device of 01: its record, its five events and Q-4's clock, and four questions. Each event takes the record by value and hands it back.
 ghost use mathlib.Core.Path.{_≡_};
 ghost use lib.ListN.{length};
-ghost use Rattle.fifo.specs.Flat.{flatAt};
-ghost use Rattle.device.specs.Device.{powerUp, withFlat};
+ghost use Rattle.device.specs.Device.{powerUp};
+ghost use Rattle.device.specs.Parts.{registersOf, framesOf, answeredWhole};
 ghost use Rattle.device.specs.Show.{pinsOf, heldIn, rangeIn, modeIn};
 ghost use Rattle.device.specs.Write.{writeOf};
 ghost use Rattle.device.specs.Read.{readOf, bufferAfter};
 ghost use Rattle.device.specs.Sample.{sampleOf, cycleOf};
 ghost use Rattle.device.specs.Clock.{clockOf};
 use channels::Channels;
-use codes::CONTROL_AT;
 use codes::Mode;
-use codes::RANGE_AT;
 use codes::Range;
-use codes::mode_of;
-use codes::range_of;
 use detectors::Detectors;
 use fifo::Fifo;
 use fifo::ROOM;
 use fifo::no_frames;
-use interrupts::Pin;
 use interrupts::Pins;
-use interrupts::pin_level;
 use registers::Answer;
 
 mod frame;
-mod lent;
+pub mod parts;
 mod reading;
 mod showing;
 mod verdict;
 mod writing;
 
-use showing::Inside;
-use showing::statuses_in;
+use parts::CoreAnswered;
+use parts::mode_in;
+use parts::range_in;
 use writing::first_bytes;
 
 #[repr(C)]
@@ -43,8 +38,8 @@ pub struct Device {
     temperature: u8,
     // whether an accepted sample came since the last cycle start or reset
     came: bool,
-    // the FIFO's store, which the entry for C lends where it lies, and its numbers
-    pub frames: [u8; ROOM],
+    // the FIFO's store, and its numbers
+    frames: [u8; ROOM],
     fifo: Fifo,
     detectors: Detectors,
 }
@@ -53,18 +48,6 @@ pub struct Device {
 pub struct Answered {
     pub answer: Answer,
     pub device: Device,
-}
-
-impl Answered {
-    // With these frames in the device's store.
-    fn with_frames(self, frames: [u8; ROOM]) -> Self
-        ensures { λ r. ⌜ r ≡ record { answer = self .answer; device = withFlat (self .device) (flatAt frames (self .device .fifo)) } ⌝ }
-    {
-        let answer = self.answer;
-        let mut device = self.device;
-        device.frames = frames;
-        Answered { answer, device }
-    }
 }
 
 impl Device {
@@ -92,30 +75,45 @@ impl Device {
     pub fn write(mut self, address: u8, byte: u8) -> Answered
         ensures { λ r. ⌜ r ≡ writeOf self address byte ⌝ }
     {
-        let before = self;
-        let done = before.write_in(&mut self.frames, address, byte);
-        let frames = self.frames;
-        done.with_frames(frames)
+        let core = self.core();
+        let mut regs = self.regs;
+        let done = core.write(&mut regs, &mut self.frames, address, byte);
+        self.regs = regs;
+        self.answered(done)
     }
 
     // A burst read into a lent buffer, whose own length is the read length.
     pub fn read(mut self, address: u8, buffer: &mut [u8]) -> Answered
         ensures { λ r. ⌜ (r ≡ readOf self address (length (now (buffer .entry)))) × (now (buffer .exit) ≡ bufferAfter self address (now (buffer .entry))) ⌝ }
     {
-        let before = self;
-        let done = before.read_in(&mut self.frames, address, buffer);
-        let frames = self.frames;
-        done.with_frames(frames)
+        let core = self.core();
+        let regs = self.regs;
+        let done = core.read(&regs, &mut self.frames, address, buffer);
+        self.answered(done)
     }
 
     // A sample.
     pub fn sample(mut self, x: i16, y: i16, z: i16, temperature: u8) -> Answered
         ensures { λ r. ⌜ r ≡ sampleOf self x y z temperature ⌝ }
     {
-        let before = self;
-        let done = before.sample_in(&mut self.frames, x, y, z, temperature);
+        let core = self.core();
+        let regs = self.regs;
+        let done = core.sample(&regs, &mut self.frames, x, y, z, temperature);
+        self.answered(done)
+    }
+
+    // With the core that an event left, and its answer.
+    fn answered(self, done: CoreAnswered) -> Answered
+        ensures { λ r. ⌜ r ≡ answeredWhole done (registersOf self) (framesOf self) ⌝ }
+    {
+        let answer = done.answer;
+        let core = done.core;
+        let regs = self.regs;
         let frames = self.frames;
-        done.with_frames(frames)
+        Answered {
+            answer,
+            device: Device::of_parts(core, regs, frames),
+        }
     }
 
     // The start of an acquisition cycle.
@@ -146,27 +144,16 @@ impl Device {
         ensures { λ r. ⌜ r ≡ pinsOf self ⌝ }
     {
         let regs = self.regs;
-        let fifo = self.fifo;
-        let detectors = self.detectors;
-        let inside = Inside {
-            temperature: self.temperature,
-            came: self.came,
-            fifo,
-            detectors,
-        };
-        let statuses = statuses_in(&regs, inside);
-        Pins {
-            int1: pin_level(Pin::Int1, statuses, &regs),
-            int2: pin_level(Pin::Int2, statuses, &regs),
-        }
+        let core = self.core();
+        core.pins(&regs)
     }
 
     // How many frames the FIFO holds.
     pub fn held(self) -> usize
         ensures { λ r. ⌜ r ≡ heldIn self ⌝ }
     {
-        let fifo = self.fifo;
-        fifo.count(Device::DEPTH)
+        let core = self.core();
+        core.held()
     }
 
     // The measuring range.
@@ -174,7 +161,7 @@ impl Device {
         ensures { λ r. ⌜ r ≡ rangeIn self ⌝ }
     {
         let regs = self.regs;
-        range_of(regs[RANGE_AT])
+        range_in(&regs)
     }
 
     // The FIFO's mode.
@@ -182,6 +169,6 @@ impl Device {
         ensures { λ r. ⌜ r ≡ modeIn self ⌝ }
     {
         let regs = self.regs;
-        mode_of(regs[CONTROL_AT])
+        mode_in(&regs)
     }
 }

@@ -2,14 +2,14 @@ use mathlib.Core.Path.{refl, sym, _∙_}
 use denote.Ref.{now}
 use mir.Facts.{toZ-ofZ}
 use borrow.Author.Needs.{needs}
-use Rattle.device.proofs.Holding.{holding}
+use Rattle.device.specs.Parts.{whole}
 use Rattle.device.proofs.Events.{sample-is, sample-refused}
-use Rattle.device.proofs.Device.sample_in.Statement.{statement}
-use Rattle.device.proofs.Device.sample_in.Tie as tie
+use Rattle.device.proofs.parts.Core.sample.Statement.{statement}
+use Rattle.device.proofs.parts.Core.sample.Tie as tie
 
 returns : tie.Need-returns
 returns c =
-    let push = c .before .before .before in
+    let push = c .before .before in
     let frame = push .before .before .before in
     let channels = frame .before in
     let mode = channels .before .before in
@@ -21,17 +21,15 @@ returns c =
     let start = answer .before in
     let f = start .fits in
     let t = simp (toZ-ofZ (f .x), toZ-ofZ (f .y), toZ-ofZ (f .z)) at (answer .sample-answer .ensures) in
-    let k = simp (toZ-ofZ (f .x), toZ-ofZ (f .y), toZ-ofZ (f .z)) at (codes .codes-of .ensures) in (
-      sample-is (holding (start .args .self) (now (start .args .frames))) _ _ _ _ _ t (sym (accepted .is-accepted .ensures) ∙ taken .if1 .taken) _ record {
-        regs = refl;
-        channels = channels .sample .ensures ∙ rw k refl;
-        temperature = refl;
-        came = refl;
-        flat = push .push .ensures ∙ rw (frame .frame-of .ensures, mode .mode-of .ensures, axes .axes-of .ensures, k);
-        detectors = c .sample2 .ensures ∙ rw (toZ-ofZ (f .x), toZ-ofZ (f .y), toZ-ofZ (f .z));
-      },
-      refl,
-    )
+    let k = simp (toZ-ofZ (f .x), toZ-ofZ (f .y), toZ-ofZ (f .z)) at (codes .codes-of .ensures) in
+    sample-is (whole (start .args .self) (now (start .args .regs)) (now (start .args .frames))) _ _ _ _ _ t (sym (accepted .is-accepted .ensures) ∙ taken .if1 .taken) _ record {
+      regs = refl;
+      channels = channels .sample .ensures ∙ rw k refl;
+      temperature = refl;
+      came = refl;
+      flat = push .push .ensures ∙ rw (frame .frame-of .ensures, mode .mode-of .ensures, axes .axes-of .ensures, k);
+      detectors = c .sample2 .ensures ∙ rw (toZ-ofZ (f .x), toZ-ofZ (f .y), toZ-ofZ (f .z));
+    }
 
 returns-2 : tie.Need-returns-2
 returns-2 c =
@@ -39,10 +37,10 @@ returns-2 c =
     let start = answer .before in
     let f = start .fits in
     let t = simp (toZ-ofZ (f .x), toZ-ofZ (f .y), toZ-ofZ (f .z)) at (answer .sample-answer .ensures) in
-    (sample-refused (holding (start .args .self) (now (start .args .frames))) _ _ _ _ _ t (sym (c .before .is-accepted .ensures) ∙ c .if1 .left), refl)
+    sample-refused (whole (start .args .self) (now (start .args .regs)) (now (start .args .frames))) _ _ _ _ _ t (sym (c .before .is-accepted .ensures) ∙ c .if1 .left)
 
-pub sample-in-spec : {M : Type 1} → statement M
-sample-in-spec =
+pub sample-spec : {M : Type 1} → statement M
+sample-spec =
     tie.close
     (tie.spec
     (λ c κs. tt)
