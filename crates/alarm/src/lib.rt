@@ -34,19 +34,17 @@ impl Alarm {
 
     // The status is set, with its mark and its sign, and held for so many microseconds, or with 0 for no time; one already set stays as
     // it is.
-    pub fn raise(self, mark: u8, negative: bool, hold: u32) -> Self
+    pub fn raise(mut self, mark: u8, negative: bool, hold: u32) -> Self
         ensures { λ r. ⌜ r ≡ raised mark negative hold self ⌝ }
     {
         if self.status {
-            self
-        } else {
-            Alarm {
-                status: true,
-                mark: mark,
-                negative: negative,
-                remaining: hold,
-            }
+            return self;
         }
+        self.status = true;
+        self.mark = mark;
+        self.negative = negative;
+        self.remaining = hold;
+        self
     }
 
     // Mark and time clear with the status; the sign stays.

@@ -1,8 +1,5 @@
 // All detectors together, with the previous sample that the slope detectors share: what a sample, a clock and a write do to them.
 ghost use mathlib.Core.Path.{_≡_};
-ghost use Rattle.laws.specs.Choice.{pick};
-ghost use Rattle.slopes.specs.Previous.{forgotten};
-ghost use Rattle.motion.specs.Detector.{restarted};
 ghost use Rattle.detectors.specs.Detectors as detectors;
 use codes::AXES_AT;
 use codes::LATCH_AT;
@@ -36,18 +33,6 @@ fn motion_settings(regs: &[u8; 64]) -> Settings
     }
 }
 
-fn forgotten_when(forgets: bool, previous: Previous) -> Previous
-    ensures { λ r. ⌜ r ≡ pick forgets (forgotten previous) previous ⌝ }
-{
-    if forgets { previous.forget() } else { previous }
-}
-
-fn restarted_when(restarts: bool, motion: Motion) -> Motion
-    ensures { λ r. ⌜ r ≡ pick restarts (restarted motion) motion ⌝ }
-{
-    if restarts { motion.restart() } else { motion }
-}
-
 impl Detectors {
     // As at power-up.
     pub fn quiet() -> Self
@@ -76,32 +61,28 @@ impl Detectors {
     }
 
     // An accepted sample comes.
-    pub fn sample(self, regs: &[u8; 64], x: i16, y: i16, z: i16) -> Self
+    pub fn sample(mut self, regs: &[u8; 64], x: i16, y: i16, z: i16) -> Self
         ensures { λ r. ⌜ r ≡ detectors.detectorsSampled (now (regs .entry)) x y z self ⌝ }
     {
         let previous = self.previous;
         let motion = self.motion;
         let slopes = previous.slopes_to(x, y, z);
-        Detectors {
-            previous: Previous::remember(x, y, z),
-            motion: motion.sample(motion_settings(regs), slopes),
-        }
+        self.previous = Previous::remember(x, y, z);
+        self.motion = motion.sample(motion_settings(regs), slopes);
+        self
     }
 
     // A clock of so many microseconds comes.
-    pub fn clock(self, microseconds: u32) -> Self
+    pub fn clock(mut self, microseconds: u32) -> Self
         ensures { λ r. ⌜ r ≡ detectors.detectorsClocked microseconds self ⌝ }
     {
-        let previous = self.previous;
         let motion = self.motion;
-        Detectors {
-            previous,
-            motion: motion.clock(microseconds),
-        }
+        self.motion = motion.clock(microseconds);
+        self
     }
 
     // A write was done.
-    pub fn after_write(self, deeds: Deeds) -> Self
+    pub fn after_write(mut self, deeds: Deeds) -> Self
         ensures { λ r. ⌜ r ≡ detectors.detectorsWritten deeds self ⌝ }
     {
         if deeds.resets {
@@ -109,9 +90,12 @@ impl Detectors {
         }
         let previous = self.previous;
         let motion = self.motion;
-        Detectors {
-            previous: forgotten_when(deeds.forgets, previous),
-            motion: restarted_when(deeds.restarts, motion),
+        if deeds.forgets {
+            self.previous = previous.forget();
         }
+        if deeds.restarts {
+            self.motion = motion.restart();
+        }
+        self
     }
 }

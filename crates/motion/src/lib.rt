@@ -62,14 +62,13 @@ impl Motion {
     }
 
     // Status, marks and runs are cleared.
-    pub fn restart(self) -> Self
+    pub fn restart(mut self) -> Self
         ensures { λ r. ⌜ r ≡ restarted self ⌝ }
     {
         let alarm = self.alarm;
-        Motion {
-            runs: Runs::none(),
-            alarm: alarm.clear(),
-        }
+        self.runs = Runs::none();
+        self.alarm = alarm.clear();
+        self
     }
 
     // An accepted sample comes, with its slopes.

@@ -174,23 +174,21 @@ impl Runs {
     }
 
     // An over point comes, where n in a row are asked for.
-    pub fn after_over(self, n: u8) -> Self
+    pub fn after_over(mut self, n: u8) -> Self
         ensures { λ r. ⌜ r ≡ overRun n self ⌝ }
     {
-        Runs {
-            over: longer_run(n, self.over),
-            calm: 0,
-        }
+        self.over = longer_run(n, self.over);
+        self.calm = 0;
+        self
     }
 
     // A calm point comes.
-    pub fn after_calm(self, n: u8) -> Self
+    pub fn after_calm(mut self, n: u8) -> Self
         ensures { λ r. ⌜ r ≡ calmRun n self ⌝ }
     {
-        Runs {
-            over: 0,
-            calm: longer_run(n, self.calm),
-        }
+        self.over = 0;
+        self.calm = longer_run(n, self.calm);
+        self
     }
 
     // Whether n over points in a row are reached.

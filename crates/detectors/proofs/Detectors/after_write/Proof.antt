@@ -1,3 +1,4 @@
+use mathlib.Core.Logic.{⊎-elim}
 use Rattle.detectors.specs.Detectors.{detectorsWritten}
 use Rattle.detectors.proofs.Detectors.after_write.Statement.{statement}
 use Rattle.detectors.proofs.Detectors.after_write.Tie as tie
@@ -12,5 +13,17 @@ after-write-spec =
     (λ c κs. tt)
     (λ c κs. tt)
     (λ c.
-    let previous = c .before in
-    simp (previous .before .before .before .if1 .left, c .restarted-when .ensures, previous .forgotten-when .ensures)))
+    let restarts = c .before in
+    let forgets = restarts .before in
+    let kept = forgets .before .before .before .if1 .left in
+    ⊎-elim
+    (λ w. simp (w .2, kept, w .0 .taken, w .1 .ensures, restarts .if3 .taken, c .restart .ensures))
+    (λ w. simp (w .1, kept, w .0 .left, restarts .if3 .taken, c .restart .ensures))
+    (forgets .if2 .came))
+    (λ c.
+    let forgets = c .before in
+    let kept = forgets .before .before .before .if1 .left in
+    ⊎-elim
+    (λ w. simp (w .2, kept, w .0 .taken, w .1 .ensures, c .if3 .left))
+    (λ w. simp (w .1, kept, w .0 .left, c .if3 .left))
+    (forgets .if2 .came)))
