@@ -12,6 +12,7 @@ use motion::Motion;
 use motion::Settings;
 use registers::Deeds;
 use slopes::Previous;
+use slopes::no_axis;
 
 #[repr(C)]
 pub struct Detectors {
@@ -60,14 +61,17 @@ impl Detectors {
         motion.marks()
     }
 
-    // An accepted sample comes.
+    // An accepted sample comes. While no axis is enabled it gives no point: it is remembered, and no slope is reckoned.
     pub fn sample(mut self, regs: &[u8; 64], x: i16, y: i16, z: i16) -> Self
         ensures { λ r. ⌜ r ≡ detectors.detectorsSampled (now (regs .entry)) x y z self ⌝ }
     {
         let previous = self.previous;
         let motion = self.motion;
-        let slopes = previous.slopes_to(x, y, z);
         self.previous = Previous::remember(x, y, z);
+        if no_axis(regs[AXES_AT]) {
+            return self;
+        }
+        let slopes = previous.slopes_to(x, y, z);
         self.motion = motion.sample(motion_settings(regs), slopes);
         self
     }

@@ -85,6 +85,15 @@ pub marked-sample : (s : Settings) (slopes : Slopes) (m : Motion) → Marked (m 
 unfolding afterSample
 marked-sample s slopes m h = marked-point s (pointOf (s .axes) (s .threshold) slopes) m (named (s .axes) (s .threshold) slopes) h
 
+-- ---- "nor does any sample while no axis is enabled" give a point: such a sample changes nothing
+pub no-axis : (s : Settings) (slopes : Slopes) (m : Motion) → noAxis (s .axes) ≡ true → afterSample s slopes m ≡ m
+unfolding afterSample pointOf
+no-axis s slopes m h = rw h (go (slopes .known))
+  where
+    go : (known : Bool) → afterPoint s (pick (either (not known) true) None (firstOver (s .axes) (s .threshold) (slopes .x) (slopes .y) (slopes .z))) m ≡ m
+    go true = refl
+    go false = refl
+
 -- ---- the alarm from the points alone
 -- where nothing was counted before them, the runs are those of the points and the alarm is what they make of a
 pub by-points : (s : Settings) (ps : List Point) (a : Alarm)

@@ -7,6 +7,7 @@ use Rattle.slopes.proofs.Previous.none as previous-none
 use Rattle.slopes.proofs.Previous.remember as remember
 use Rattle.slopes.proofs.Previous.forget as forget
 use Rattle.slopes.proofs.Previous.slopes_to as slopes-to
+use Rattle.slopes.proofs.no_axis as no-axis
 use Rattle.slopes.proofs.judge as judge
 use Rattle.slopes.proofs.Runs.none as runs-none
 use Rattle.slopes.proofs.Runs.after_over as after-over
@@ -29,6 +30,9 @@ forget-settled = plain (λ κs a s s′. refl)
 
 slopes-to-settled : Settled slopes-to.ended (λ M. slopes-to.clauses) (λ M. slopes-to.spec)
 slopes-to-settled = plain (λ κs a s s′. refl)
+
+no-axis-settled : Settled no-axis.ended (λ M. no-axis.clauses) (λ M. no-axis.spec)
+no-axis-settled = plain (λ κs a s s′. refl)
 
 judge-settled : Settled judge.ended (λ M. judge.clauses) (λ M. judge.spec)
 judge-settled = plain (λ κs a s s′. refl)

@@ -109,7 +109,8 @@ impl Previous {
     }
 }
 
-fn no_axis(axes: u8) -> bool
+// Whether none of a detector's axes is enabled (bits 2:0 count): no sample gives a point then.
+pub fn no_axis(axes: u8) -> bool
     ensures { λ r. ⌜ r ≡ noAxis axes ⌝ }
 {
     axes % 8 == 0
