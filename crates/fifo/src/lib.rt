@@ -137,15 +137,10 @@ fn give(s: &[u8], held: usize, out: &mut [u8])
     requires { ⌜ held ≤ length (now s) ⌝ }
     ensures { λ _. ⌜ now (out .exit) ≡ firstOrZeros (length (now (out .entry))) (take held (now (s .entry))) ⌝ }
 {
-    let mut i = 0;
-    while i < out.len() {
-        if i < held {
-            out[i] = s[i];
-        } else {
-            out[i] = 0;
-        }
-        i += 1;
-    }
+    let n = out.len();
+    let given = least(held, n);
+    put(&mut *out, 0, s, given);
+    clear(out, given, n - given);
 }
 
 impl Fifo {
