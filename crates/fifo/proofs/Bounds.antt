@@ -4,7 +4,7 @@ use Prim.Native.Nat.{ℕ, _*_, _≤_}
 use mathlib.Core.Path.{_≡_}
 use mathlib.Core.List.{List}
 use native.Mathlib.Omega.{arith}
-use native.Mathlib.Nat.{mul-le-mul-left}
+use native.Mathlib.Nat.{mul-le-mul-left, mul-le-mul-right}
 use lib.ListN.{length}
 use Rattle.codes.specs.declared.Mode.{Mode}
 use Rattle.codes.specs.declared.Mode.the-variants.{Bypass, Fifo, Stream, Reserved}
@@ -50,11 +50,11 @@ module _ {room depth : ℕ} (h : Deep room depth) where
   depth-some Stream e = h .some
   depth-some Reserved e = let z : _≡_ {A = ℕ} 0 1 = cc in omega arith
 
-  -- the store has room for any setting
-  pub room-for : (m : Mode) (a : Axes) (bs frame : List ℕ) → room ≤ length bs → longestFrame ≤ length frame → Room depth (settingOf depth m a) bs frame
-  room-for m a bs frame hb hf = record {
-    deep = depth-most m;
-    whole = omega (arith, size-space a);
+  -- the store has room for any setting, and for as many frames as the depth
+  pub room-for : (m : Mode) (a : Axes) (n : ℕ) (bs frame : List ℕ) → n ≤ depth → room ≤ length bs → longestFrame ≤ length frame → Room n (settingOf depth m a) bs frame
+  room-for m a n bs frame hn hb hf = record {
+    holds = omega (arith, size-space a, mul-le-mul-right (sizeOf a) hn);
+    whole = omega (arith, size-space a, mul-le-mul-right (sizeOf a) (depth-most m));
     long = omega (arith, size-bounds a .1);
     some = depth-some m;
   }

@@ -1,7 +1,7 @@
 -- What callers need of a chip's store: the one that is packed from frames stays packed, and means those frames; and bounds of its count.
 -- Over a store of any room and any depth for which it has room.
 -- Assumes nothing.
-use Prim.Native.Nat.{ℕ, _+_, _≤_, min}
+use Prim.Native.Nat.{ℕ, _+_, _≤_}
 use mathlib.Core.Path.{_≡_, refl, _∙_}
 use mathlib.Core.List.{List}
 use mathlib.Core.Bool.{Bool, true, false}
@@ -9,19 +9,16 @@ use native.Mathlib.Omega.{arith}
 use lib.ListN.{length, take}
 use lib.Dec.{ltb}
 use borrow.Author.Tests.{ltb-true}
-use Rattle.laws.specs.Choice.{pick}
 use Rattle.laws.specs.Bits.{worth}
 use Rattle.laws.specs.Bytes.{padded, firstOrZeros}
 use Rattle.codes.specs.declared.Mode.{Mode}
 use Rattle.codes.specs.declared.Axes.{Axes}
-use Rattle.fifo.specs.declared.Drop.{Drop}
-use Rattle.fifo.specs.declared.Drop.the-variants.{Newcomer, Oldest}
 use Rattle.fifo.specs.declared.Setting.{Setting}
 use Rattle.fifo.specs.declared.Fifo.{Fifo}
 use Rattle.fifo.specs.Setting.{sizeOf, depthIn, settingOf}
 use Rattle.fifo.specs.Queue.{Queue, reached, empty, pushed, without}
 use Rattle.fifo.specs.Ledger.{Event}
-use Rattle.fifo.specs.Flat.{Flat, flat, packed, behind, flatFull, flatPushed, flatRead, numbersOf}
+use Rattle.fifo.specs.Flat.{Flat, flat, packed, heldFrames, flatPushed, flatRead, numbersOf}
 use Rattle.fifo.specs.Store.{pushedIn, readIn, bytesIn, countIn, room, noFrames, emptied, statusAt}
 use Rattle.fifo.proofs.Bounds.{Deep, fitting-is, size-bounds, size-space, depth-most, depth-some}
 use Rattle.fifo.proofs.Meaning.{Framed, framed-empty, framed-without, framed-pushed, flat-pushed, flat-read, flat-bytes, flat-held, first-taken}
@@ -79,16 +76,11 @@ status-packed w = rw (count-packed w)
 -- ---- a count that is not above the depth, of any store
 held-few : (most : ℕ) (s : Setting) (frame : List ℕ) (f : Flat) → f .count ≤ s .depth → flatPushed most s frame f .count ≤ s .depth
 unfolding flatPushed
-held-few most s frame f h = go (s .drops) (ltb n (s .depth)) refl
+held-few most s frame f h = go (ltb (heldFrames most f) (s .depth)) refl
   where
-    n : ℕ
-    n = min (f .count) most
-
-    go : (w : Drop) (t : Bool) → ltb n (s .depth) ≡ t
-        → pick t (record { bytes = behind (s .size) n frame (f .bytes); count = n + 1; overrun = f .overrun }) (flatFull w (s .size) n frame f) .count ≤ s .depth
-    go w true e = omega (arith, ltb-true)
-    go Newcomer false e = omega arith
-    go Oldest false e = omega arith
+    go : (t : Bool) → ltb (heldFrames most f) (s .depth) ≡ t → flatPushed most s frame f .count ≤ s .depth
+    go true e = rw e (omega (arith, ltb-true))
+    go false e = rw e (omega arith)
 
 pub read-few : (room depth : ℕ) (axes : Axes) (n : ℕ) (f : Flat) → readIn room depth axes n f .count ≤ f .count
 unfolding readIn flatRead

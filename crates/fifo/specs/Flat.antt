@@ -55,9 +55,9 @@ abbrev pub vacated : ℕ → ℕ → ℕ → List ℕ → List ℕ
 vacated size n k bs = paste bs ((n - k) * size) (zeros (k * size)) (k * size)
 
 -- a full store of n frames of size bytes, when one more comes
-abbrev pub flatFull : Drop → ℕ → ℕ → List ℕ → Flat → Flat
-flatFull Newcomer size n frame f = record { bytes = f .bytes; count = n; overrun = true }
-flatFull Oldest size n frame f = record { bytes = behind size (n - 1) frame (forward size n 1 (f .bytes)); count = n; overrun = true }
+abbrev pub dropping : Drop → ℕ → ℕ → List ℕ → List ℕ → List ℕ
+dropping Newcomer size n frame bs = bs
+dropping Oldest size n frame bs = behind size (n - 1) frame (forward size n 1 bs)
 
 -- a frame comes: where nothing is dropped its own bytes are written, and no others
 unfoldable pub flatPushed : ℕ → Setting → List ℕ → Flat → Flat
@@ -65,7 +65,7 @@ flatPushed most s frame f =
     let n = heldFrames most f in
     pick (ltb n (s .depth))
     (record { bytes = behind (s .size) n frame (f .bytes); count = n + 1; overrun = f .overrun })
-    (flatFull (s .drops) (s .size) n frame f)
+    (record { bytes = dropping (s .drops) (s .size) n frame (f .bytes); count = n; overrun = true })
 
 -- after a readout of b bytes, where frames have size bytes
 unfoldable pub flatRead : ℕ → ℕ → ℕ → Flat → Flat
@@ -78,9 +78,9 @@ flatRead most size b f =
 unfoldable pub bytesRead : ℕ → ℕ → ℕ → Flat → List ℕ
 bytesRead most size b f = firstOrZeros b (take (heldFrames most f * size) (f .bytes))
 
--- what a lent store and a frame must have for a push
-pub record Room (most : ℕ) (s : Setting) (bs frame : List ℕ) : Type 0 where
-  pub deep : s .depth ≤ most
-  pub whole : most * s .size ≤ length bs
+-- what a lent store of n frames and one more must have for a push
+pub record Room (n : ℕ) (s : Setting) (bs frame : List ℕ) : Type 0 where
+  pub holds : n * s .size ≤ length bs
+  pub whole : s .depth * s .size ≤ length bs
   pub long : s .size ≤ length frame
   pub some : s .drops ≡ Oldest → 1 ≤ s .depth

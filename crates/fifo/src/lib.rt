@@ -1,14 +1,15 @@
 // The FIFO of 01: frames in a flat store of bytes, the oldest first. The store is lent by its owner, and its numbers go by value. The
 // work is done on a store of any length, so that chips of other depths can share it; the accelerometer's is thin over it.
 ghost use mathlib.Core.Path.{_≡_};
-ghost use Prim.Native.Nat.{_+_, _*_, _^_, _≤_, _<_};
+ghost use Prim.Native.Nat.{_+_, _-_, _*_, _^_, _≤_, _<_, min};
 ghost use lib.ListN.{length, take};
 ghost use lib.Seq.{paste};
+ghost use lib.Dec.{ltb};
 ghost use Rattle.laws.specs.Choice.{pick};
 ghost use Rattle.laws.specs.Bytes.{zeros, firstOrZeros};
 ghost use Rattle.fifo.specs.Setting.{longestFrame, sizeOf, depthIn, dropsIn, settingOf};
 ghost use Rattle.fifo.specs.Queue.{reached};
-ghost use Rattle.fifo.specs.Flat.{Room, flatAt, numbersOf, flatPushed, flatRead, bytesRead};
+ghost use Rattle.fifo.specs.Flat.{Room, flatAt, numbersOf, behind, forward, vacated, dropping};
 ghost use Rattle.fifo.specs.Store.{room, fitting, noFrames, emptied, pushedAt, readoutAt, readoutBytesAt, countAt, statusAt};
 use codes::Axes;
 use codes::Mode;
@@ -143,6 +144,44 @@ fn give(s: &[u8], held: usize, out: &mut [u8])
     clear(out, given, n - given);
 }
 
+// A frame comes to a store of held frames: behind them where the setting has room for one more, else one is dropped. Whether it fits.
+fn push_frame(s: &mut [u8], held: usize, setting: Setting, frame: &[u8]) -> bool
+    requires { ⌜ Room held setting (now s) (now frame) ⌝ }
+    ensures { λ fits. ⌜ (fits ≡ ltb held (setting .depth))
+        × (now (s .exit) ≡ pick fits (behind (setting .size) held (now (frame .entry)) (now (s .entry)))
+        (dropping (setting .drops) (setting .size) held (now (frame .entry)) (now (s .entry)))) ⌝ }
+{
+    let size = setting.size;
+    if held < setting.depth {
+        put(s, held * size, frame, size);
+        return true;
+    }
+    let drops = setting.drops;
+    match drops {
+        Drop::Newcomer => {}
+        Drop::Oldest => {
+            move_forward(&mut *s, size, held * size);
+            put(s, (held - 1) * size, frame, size);
+        }
+    }
+    false
+}
+
+// A readout of as many bytes as out has, from a store of held frames: how many are left.
+fn read_frames(s: &mut [u8], held: usize, size: usize, out: &mut [u8]) -> usize
+    requires { ⌜ (held * size ≤ length (now s)) × (1 ≤ size) × (size ≤ longestFrame) ⌝ }
+    ensures { λ left. ⌜ (let taken = min (reached size (length (now (out .entry)))) held in
+        (left ≡ held - taken) × (now (s .exit) ≡ vacated size held taken (forward size held taken (now (s .entry)))))
+        × (now (out .exit) ≡ firstOrZeros (length (now (out .entry))) (take (held * size) (now (s .entry)))) ⌝ }
+{
+    let taken = least(frames_reached(out.len(), size), held);
+    let left = held - taken;
+    give(&s[..], held * size, out);
+    move_forward(&mut *s, taken * size, held * size);
+    clear(s, left * size, taken * size);
+    left
+}
+
 impl Fifo {
     // Cleared: no frame, no overrun.
     pub fn empty() -> Self
@@ -169,49 +208,9 @@ impl Fifo {
         if self.overrun { 128 + count } else { count }
     }
 
-    // An accepted sample's frame comes, to a store in which most frames fit.
-    fn push_frame(mut self, s: &mut [u8], most: usize, setting: Setting, frame: &[u8]) -> Self
-        requires { ⌜ Room most setting (now s) (now frame) ⌝ }
-        ensures { λ r. ⌜ flatAt (now (s .exit)) r ≡ flatPushed most setting (now (frame .entry)) (flatAt (now (s .entry)) self) ⌝ }
-    {
-        let held = least(self.count, most);
-        let size = setting.size;
-        if held < setting.depth {
-            put(s, held * size, frame, size);
-            self.count = held + 1;
-            return self;
-        }
-        let drops = setting.drops;
-        match drops {
-            Drop::Newcomer => {}
-            Drop::Oldest => {
-                move_forward(&mut *s, size, held * size);
-                put(s, (held - 1) * size, frame, size);
-            }
-        }
-        self.count = held;
-        self.overrun = true;
-        self
-    }
-
-    // A readout of as many bytes as out has, from a store in which most frames fit.
-    fn read_frames(mut self, s: &mut [u8], most: usize, size: usize, out: &mut [u8]) -> Self
-        requires { ⌜ (most * size ≤ length (now s)) × (1 ≤ size) × (size ≤ longestFrame) ⌝ }
-        ensures { λ r. ⌜ (flatAt (now (s .exit)) r ≡ flatRead most size (length (now (out .entry))) (flatAt (now (s .entry)) self))
-            × (now (out .exit) ≡ bytesRead most size (length (now (out .entry))) (flatAt (now (s .entry)) self)) ⌝ }
-    {
-        let held = least(self.count, most);
-        let taken = least(frames_reached(out.len(), size), held);
-        give(&s[..], held * size, out);
-        move_forward(&mut *s, taken * size, held * size);
-        self.count = held - taken;
-        clear(s, (held - taken) * size, taken * size);
-        self
-    }
-
     // An accepted sample's frame comes.
     pub fn push(
-        self,
+        mut self,
         frames: &mut [u8; ROOM],
         depth: usize,
         mode: Mode,
@@ -222,26 +221,42 @@ impl Fifo {
     {
         let most = depth_within(depth);
         let setting = setting_of(most, mode, axes);
-        self.push_frame(frames, most, setting, &frame)
+        let held = least(self.count, most);
+        if push_frame(frames, held, setting, &frame) {
+            self.count = held + 1;
+        } else {
+            self.count = held;
+            self.overrun = true;
+        }
+        self
     }
 
     // A readout at 0x3F of as many bytes as out has.
-    pub fn readout(self, frames: &mut [u8; ROOM], depth: usize, axes: Axes, out: &mut [u8]) -> Self
+    pub fn readout(
+        mut self,
+        frames: &mut [u8; ROOM],
+        depth: usize,
+        axes: Axes,
+        out: &mut [u8],
+    ) -> Self
         ensures { λ r. ⌜ (flatAt (now (frames .exit)) r ≡ readoutAt depth axes (length (now (out .entry))) (flatAt (now (frames .entry)) self))
             × (now (out .exit) ≡ readoutBytesAt depth axes (length (now (out .entry))) (flatAt (now (frames .entry)) self)) ⌝ }
     {
-        let most = depth_within(depth);
+        let held = self.count(depth);
         let size = size_of(axes);
-        self.read_frames(frames, most, size, out)
+        let left = read_frames(frames, held, size, out);
+        self.count = left;
+        self
     }
 
     // Empties the FIFO and clears overrun, where asked; else the store and the numbers stay as they are.
-    pub fn emptied_when(self, frames: &mut [u8; ROOM], empties: bool) -> Self
+    pub fn emptied_when(mut self, frames: &mut [u8; ROOM], empties: bool) -> Self
         ensures { λ r. ⌜ flatAt (now (frames .exit)) r ≡ pick empties emptied (flatAt (now (frames .entry)) self) ⌝ }
     {
         if empties {
             clear(frames, 0, ROOM);
-            return Fifo::empty();
+            self.count = 0;
+            self.overrun = false;
         }
         self
     }

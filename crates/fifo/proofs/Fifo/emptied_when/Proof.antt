@@ -17,10 +17,9 @@ emptied-when-spec =
     tie.close
     (tie.spec
     (λ c κs. search needs)
-    (λ c κs. tt)
     (λ c.
-    let s = now (c .before .before .before .before .args .frames) in
+    let s = now (c .before .before .before .args .frames) in
     let l : length s ≡ room = search needs in
     let z : (n : ℕ) → length s ≡ n → paste s 0 (zeros n) n ≡ zeros n = λ n e. rw (← e) (paste-whole s (zeros (length s)) (length-zeros (length s))) in
-    rw (c .before .before .before .if1 .taken, c .empty .ensures, c .before .clear .ensures, z room l))
+    rw (c .before .before .if1 .taken, c .clear .ensures, z room l))
     (λ c. rw (c .if1 .left)))

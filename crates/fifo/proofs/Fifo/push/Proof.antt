@@ -1,25 +1,40 @@
--- `fifo::Fifo::push` meets its contract: the store has room for every setting.
+-- `fifo::Fifo::push` meets its contract: the store has room for every setting, and the definition's test is the one that the store's work gives.
 use mathlib.Core.Path.{_≡_}
 use native.Mathlib.Omega.{arith}
 use denote.Ref.{now}
 use lib.ListN.{length}
 use borrow.Author.Needs.{needs}
+use Rattle.fifo.specs.Setting.{longestFrame}
+use Rattle.fifo.specs.Flat.{flatPushed}
 use Rattle.fifo.specs.Store.{pushedIn, room}
 use Rattle.fifo.proofs.Bounds.{fitting-deep, room-for}
 use Rattle.fifo.proofs.Fifo.push.Statement.{statement}
 use Rattle.fifo.proofs.Fifo.push.Tie as tie
 
 pub push-spec : {M : Type 1} → statement M
-unfolding pushedIn
+unfolding pushedIn flatPushed
 push-spec =
     tie.close
     (tie.spec
     (λ c κs. tt)
     (λ c κs. tt)
+    (λ c κs. tt)
     (λ c. search needs)
     (λ c κs.
-    let a = c .before .before .before .before .args in
+    let held = c .before .before in
+    let start = held .before .before .before in
+    let a = start .args in
     let b : length (now (a .frames)) ≡ room = search needs in
-    let f : length (a .t6) ≡ 6 = search needs in
-    rw (c .before .before .setting-of .ensures, c .before .before .before .depth-within .ensures) (room-for (fitting-deep room (a .depth) (omega arith)) (a .mode) (a .axes) (now (a .frames)) (a .t6) (omega arith) (omega arith)))
-    (λ c. rw (← c .before .before .before .before .depth-within .ensures, ← c .before .before .before .setting-of .ensures) (c .push-frame .ensures)))
+    let f : length (a .t6) ≡ longestFrame = omega (arith, start .good) in
+    rw (held .before .setting-of .ensures, held .before .before .depth-within .ensures) (room-for (fitting-deep room (a .depth) (omega arith)) (a .mode) (a .axes) (held .least .result) (now (a .frames)) (a .t6) (omega (arith, held .before .before .depth-within .ensures)) (omega arith) (omega arith)))
+    (λ c. search needs)
+    (λ c.
+    let held = c .before .before .before .before in
+    let most = held .before .before .depth-within .ensures in
+    let e = rw (held .before .setting-of .ensures, held .least .ensures, most) at (c .before .push-frame .ensures) in
+    rw (held .least .ensures, most, ← e .0, e .1, c .if1 .taken))
+    (λ c.
+    let held = c .before .before .before .before in
+    let most = held .before .before .depth-within .ensures in
+    let e = rw (held .before .setting-of .ensures, held .least .ensures, most) at (c .before .push-frame .ensures) in
+    rw (held .least .ensures, most, ← e .0, e .1, c .if1 .left)))
