@@ -34,10 +34,10 @@ pub struct Setting {
     pub size: usize,
 }
 
-// The numbers beside a store: how many frames it holds, and whether one was lost.
+// The numbers beside a store: how many frames it holds, and whether one was lost. In 8 bytes, which move as one.
 #[repr(C)]
 pub struct Fifo {
-    count: usize,
+    count: u32,
     overrun: bool,
 }
 
@@ -197,7 +197,7 @@ impl Fifo {
     pub fn count(self, depth: usize) -> usize
         ensures { λ r. ⌜ r ≡ countAt depth self ⌝ }
     {
-        least(self.count, depth_within(depth))
+        least(self.count as usize, depth_within(depth))
     }
 
     // The byte of 0x0E.
@@ -221,11 +221,11 @@ impl Fifo {
     {
         let most = depth_within(depth);
         let setting = setting_of(most, mode, axes);
-        let held = least(self.count, most);
+        let held = least(self.count as usize, most);
         if push_frame(frames, held, setting, &frame) {
-            self.count = held + 1;
+            self.count = (held + 1) as u32;
         } else {
-            self.count = held;
+            self.count = held as u32;
             self.overrun = true;
         }
         self
@@ -245,7 +245,7 @@ impl Fifo {
         let held = self.count(depth);
         let size = size_of(axes);
         let left = read_frames(frames, held, size, out);
-        self.count = left;
+        self.count = left as u32;
         self
     }
 

@@ -26,6 +26,9 @@ readout-spec =
     let s = size-bounds (a .axes) in
     let few : countAt (a .depth) (a .self) ≤ fitting room (a .depth) = omega arith in
     rw (c .before .before .size-of .ensures, c .before .before .before .count .ensures) (omega (arith, mul-le-mul-right (sizeOf (a .axes)) few, size-space (fitting-deep room (a .depth) (omega arith)) (a .axes)), s .0, s .1))
+    (λ c.
+    let read = c .before .before in
+    omega (arith, read .read-frames .ensures .0 .0, read .before .before .before .before .count .ensures))
     (λ c. search needs)
     (λ c.
     let read = c .before .before in
