@@ -56,7 +56,7 @@ unfolding code
 code-small (pos n) = omega arith
 code-small (negsuc n) = omega arith
 
-pub code-fits : (z : ℤ) → Fits w16 (code z)
+pub code-fits : (z : ℤ) → Fits w32 (code z)
 code-fits z = record { fits = omega (arith, code-small z) }
 
 pub lifted-fits : (z : ℤ) → SFits w32 (pos (code z))

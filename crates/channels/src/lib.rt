@@ -5,15 +5,16 @@ ghost use Rattle.channels.specs.Channels.{noSample, withSample, lsb, msb
 
 // The codes of one sample's three axes.
 pub struct Codes {
-    pub x: u16,
-    pub y: u16,
-    pub z: u16,
+    pub x: u32,
+    pub y: u32,
+    pub z: u32,
 }
 
-// One axis: the present sample's code, whether it is new, and the upper byte that a lock holds.
+// One axis: the present sample's code, whether it is new, and the upper byte that a lock holds. The code takes 32 bits, so that a channel
+// has 8 bytes and moves as one number.
 #[repr(C)]
 pub struct Channel {
-    code: u16,
+    code: u32,
     fresh: bool,
     locked: bool,
     held: u8,
@@ -34,14 +35,14 @@ pub fn in_range(sample: i16) -> bool
 }
 
 // The low twelve bits of a sample. A remainder has its sample's sign, so that of a negative one is lifted.
-pub fn code_of(sample: i16) -> u16
+pub fn code_of(sample: i16) -> u32
     ensures { λ r. ⌜ r ≡ code sample ⌝ }
 {
     let rest = sample as i32 % 4096;
     if rest >= 0 {
-        rest as u16
+        rest as u32
     } else {
-        (rest + 4096) as u16
+        (rest + 4096) as u32
     }
 }
 
@@ -56,7 +57,7 @@ pub fn codes_of(x: i16, y: i16, z: i16) -> Codes
 }
 
 // The LSB register's byte.
-pub fn lsb_of(fresh: bool, code: u16) -> u8
+pub fn lsb_of(fresh: bool, code: u32) -> u8
     ensures { λ r. ⌜ r ≡ lsbOf fresh code ⌝ }
 {
     let low = (code % 16 * 16) as u8;
@@ -64,7 +65,7 @@ pub fn lsb_of(fresh: bool, code: u16) -> u8
 }
 
 // The MSB register's byte.
-pub fn msb_of(code: u16) -> u8
+pub fn msb_of(code: u32) -> u8
     ensures { λ r. ⌜ r ≡ msbOf code ⌝ }
 {
     (code / 16 % 256) as u8
@@ -82,7 +83,7 @@ impl Channel {
         }
     }
 
-    pub fn sample(mut self, code: u16) -> Self
+    pub fn sample(mut self, code: u32) -> Self
         ensures { λ r. ⌜ r ≡ withSample code self ⌝ }
     {
         self.code = code;

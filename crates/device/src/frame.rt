@@ -8,7 +8,7 @@ use codes::Axes;
 use fifo::LONGEST_FRAME;
 
 // The frame of one axis, with zeros behind it.
-fn one_axis(code: u16) -> [u8; LONGEST_FRAME]
+fn one_axis(code: u32) -> [u8; LONGEST_FRAME]
     ensures { λ r. ⌜ r ≡ oneAxis code ⌝ }
 {
     [lsb_of(true, code), msb_of(code), 0, 0, 0, 0]
