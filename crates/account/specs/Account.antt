@@ -61,7 +61,7 @@ whyOf (clock us) a = why.Nothing
 unfoldable pub doubtAfter : Doubt → ℕ → ℕ → ℕ → Answer → ℕ → Doubt
 doubtAfter d about address byte a number =
     pick (isReset address byte) No
-    (pick (eqb address about) (pick (accepted a) No (By number byte)) d)
+    (pick (eqb address about) (pick (accepted a) No (By byte number)) d)
 
 -- of the range, by 0x0F, and of the mode, by 0x3E
 abbrev pub doubtsAfter : Doubts → ℕ → ℕ → Answer → ℕ → Doubts

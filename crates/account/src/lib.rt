@@ -71,7 +71,7 @@ fn doubt_after(
     if is_accepted(answer) {
         Doubt::No
     } else {
-        Doubt::By(number, byte)
+        Doubt::By(byte, number)
     }
 }
 

@@ -28,15 +28,15 @@ same-number n = eq-eqb n n refl
 -- ---- doubts
 doubt-equal : (d d′ : Doubt) → isSameDoubt d d′ ≡ true → d ≡ d′
 doubt-equal No No h = refl
-doubt-equal No (By n b) h = cc
-doubt-equal (By n b) No h = cc
-doubt-equal (By n b) (By m c) h =
+doubt-equal No (By b n) h = cc
+doubt-equal (By b n) No h = cc
+doubt-equal (By b n) (By c m) h =
     let p = both-of (eqb n m) (eqb b c) h in
-    λ i. By (eqb-true n m (p .0) i) (eqb-true b c (p .1) i)
+    λ i. By (eqb-true b c (p .1) i) (eqb-true n m (p .0) i)
 
 doubt-same : (d : Doubt) → isSameDoubt d d ≡ true
 doubt-same No = refl
-doubt-same (By n b) = rw (same-number n, same-number b)
+doubt-same (By b n) = rw (same-number n, same-number b)
 
 -- ---- ranges and modes: no two have the same size, or the same bits
 ofG : ℕ → Range

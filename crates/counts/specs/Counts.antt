@@ -97,9 +97,9 @@ accountMoved a counts doubts range mode held =
 -- ---- what is the same in two accounts
 abbrev pub isSameDoubt : Doubt → Doubt → Bool
 isSameDoubt No No = true
-isSameDoubt No (By number byte) = false
-isSameDoubt (By number byte) No = false
-isSameDoubt (By number byte) (By number′ byte′) = both (eqb number number′) (eqb byte byte′)
+isSameDoubt No (By byte number) = false
+isSameDoubt (By byte number) No = false
+isSameDoubt (By byte number) (By byte′ number′) = both (eqb number number′) (eqb byte byte′)
 
 -- a range in g
 abbrev pub inG : Range → ℕ

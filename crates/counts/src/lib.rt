@@ -18,10 +18,11 @@ pub struct Counts {
     pub readouts: u64,
 }
 
-// Whether what a register sets is in doubt: by the refused write to it of this record, of this byte.
+// Whether what a register sets is in doubt: by the refused write to it of this byte, in the record of this number. The byte comes first, so
+// that a doubt has no gap that a copy would move.
 pub enum Doubt {
     No,
-    By(u64, u8),
+    By(u8, u64),
 }
 
 // The doubt of the range, by 0x0F, and of the FIFO's mode, by 0x3E.
@@ -251,9 +252,9 @@ fn same_doubt(one: Doubt, other: Doubt) -> bool
             Doubt::No => true,
             Doubt::By(_, _) => false,
         },
-        Doubt::By(number, byte) => match other {
+        Doubt::By(byte, number) => match other {
             Doubt::No => false,
-            Doubt::By(others, another) => both(number == others, byte == another),
+            Doubt::By(another, others) => both(number == others, byte == another),
         },
     }
 }

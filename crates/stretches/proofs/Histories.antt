@@ -331,13 +331,13 @@ module _ (about : ℕ) (undefined : ℕ → Bool) (refuses : (regs : List ℕ) (
   unfolding doubtAfter doubtOf
   doubt-written es regs a byte room = rw (number-next es room) (go (eqb a about) refl)
     where
-      turned : (t : Bool) → pick (not t) No (By (suc (length es)) byte) ≡ pick t (By (suc (length es)) byte) No
+      turned : (t : Bool) → pick (not t) No (By byte (suc (length es))) ≡ pick t (By byte (suc (length es))) No
       turned true = refl
       turned false = refl
 
       go : (t : Bool) → eqb a about ≡ t
-          → pick (isReset a byte) No (pick t (pick (accepted (writeAnswer regs a byte)) No (By (suc (length es)) byte)) (doubtOf about undefined es))
-          ≡ pick (isReset a byte) No (pick t (pick (undefined byte) (By (suc (length es)) byte) No) (doubtOf about undefined es))
+          → pick (isReset a byte) No (pick t (pick (accepted (writeAnswer regs a byte)) No (By byte (suc (length es)))) (doubtOf about undefined es))
+          ≡ pick (isReset a byte) No (pick t (pick (undefined byte) (By byte (suc (length es))) No) (doubtOf about undefined es))
       go true e = rw (eqb-true a about e, refuses regs byte, turned)
       go false e = refl
 

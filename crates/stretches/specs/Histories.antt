@@ -61,7 +61,7 @@ doubtOf about undefined [] = No
 doubtOf about undefined (powerUp ∷ es) = No
 doubtOf about undefined (write a byte ∷ es) =
     pick (isReset a byte) No
-    (pick (eqb a about) (pick (undefined byte) (By (suc (length es)) byte) No) (doubtOf about undefined es))
+    (pick (eqb a about) (pick (undefined byte) (By byte (suc (length es))) No) (doubtOf about undefined es))
 doubtOf about undefined (read a n ∷ es) = doubtOf about undefined es
 doubtOf about undefined (sample x y z temperature ∷ es) = doubtOf about undefined es
 doubtOf about undefined (cycle ∷ es) = doubtOf about undefined es

@@ -45,14 +45,14 @@ doubting ofRange ofMode = record {
 }
 
 abbrev pub late : Account
-late = doubting (By 2 0x07) (By 3 0xC1)
+late = doubting (By 0x07 2) (By 0xC1 3)
 
 -- with one of them in doubt
 abbrev pub range-doubted : Account
-range-doubted = doubting (By 2 0x07) No
+range-doubted = doubting (By 0x07 2) No
 
 abbrev pub mode-doubted : Account
-mode-doubted = doubting No (By 3 0xC1)
+mode-doubted = doubting No (By 0xC1 3)
 
 -- "FROM TO RANGE ACCEPTED TAKEN LOST CLEARED HELD REFUSED WHY"
 pub stretch : stretchLine early late late Readout ≡ ascii "11 35 16g? 1 2 3 4 32 5 readout\n"

@@ -83,7 +83,7 @@ mode-within mode.Reserved = record { short = omega arith }
 
 sign-within : (d : Doubt) → Within 1 (doubtSign d)
 sign-within No = record { short = omega arith }
-sign-within (By n byte) = record { short = omega arith }
+sign-within (By byte n) = record { short = omega arith }
 
 -- ---- stretches
 why-within : (w : Why) → Within 7 (whyWord w)
@@ -153,7 +153,7 @@ wrote-within n byte address =
 
 because-within : (d : Doubt) (address : ℕ) → Within 69 (becauseText d address)
 because-within No address = record { short = omega arith }
-because-within (By n byte) address = two (letters ", because record ") (two (wrote-within n byte address) (letters "\n"))
+because-within (By byte n) address = two (letters ", because record ") (two (wrote-within n byte address) (letters "\n"))
 
 length-refused : (n byte address refusal : ℕ) → length (refusedLine n byte address refusal) ≤ longestWording
 unfolding refusedLine

@@ -61,7 +61,7 @@ modeWord mode.Reserved = ascii "?"
 -- `?` behind a range or a mode "while the last write to 0x0F", or 0x3E, ".. was a refused one"
 abbrev pub doubtSign : Doubt → List ℕ
 doubtSign No = []
-doubtSign (By number byte) = ascii "?"
+doubtSign (By byte number) = ascii "?"
 
 -- ---- stretches
 -- the range, and whether it is in doubt
@@ -135,7 +135,7 @@ refusedLine number byte address refusal = ascii "record " ++ (wroteText number b
 -- why what the register at an address sets is in doubt, where it is
 abbrev pub becauseText : Doubt → ℕ → List ℕ
 becauseText No address = ascii "\n"
-becauseText (By number byte) address = ascii ", because record " ++ (wroteText number byte address ++ ascii "\n")
+becauseText (By byte number) address = ascii ", because record " ++ (wroteText number byte address ++ ascii "\n")
 
 -- from the next record on
 abbrev pub fromText : ℕ → List ℕ

@@ -223,7 +223,7 @@ fn put_because(out: &mut [u8], at: usize, doubt: Doubt, address: u8) -> usize
     requires { ⌜ at + 69 ≤ length (now out) ⌝ }
     ensures { λ r. ⌜ Spelt 69 (now (out .entry)) at (becauseText doubt address) (now (out .exit)) r ⌝ }
 {
-    let Doubt::By(nth, byte) = doubt else {
+    let Doubt::By(byte, nth) = doubt else {
         return word(out, at, b"\n");
     };
     let to = word(&mut *out, at, b", because record ");
