@@ -139,31 +139,29 @@ impl Channels {
     }
 
     // An accepted sample comes.
-    pub fn sample(self, codes: Codes) -> Self
+    pub fn sample(mut self, codes: Codes) -> Self
         ensures { λ r. ⌜ r ≡ sampled codes self ⌝ }
     {
         let x = self.x;
         let y = self.y;
         let z = self.z;
-        Channels {
-            x: x.sample(codes.x),
-            y: y.sample(codes.y),
-            z: z.sample(codes.z),
-        }
+        self.x = x.sample(codes.x);
+        self.y = y.sample(codes.y);
+        self.z = z.sample(codes.z);
+        self
     }
 
     // All locks are released.
-    pub fn release(self) -> Self
+    pub fn release(mut self) -> Self
         ensures { λ r. ⌜ r ≡ released self ⌝ }
     {
         let x = self.x;
         let y = self.y;
         let z = self.z;
-        Channels {
-            x: x.unlock(),
-            y: y.unlock(),
-            z: z.unlock(),
-        }
+        self.x = x.unlock();
+        self.y = y.unlock();
+        self.z = z.unlock();
+        self
     }
 
     // The byte that a read of 0x02 to 0x07 gives.
