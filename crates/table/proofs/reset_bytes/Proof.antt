@@ -20,7 +20,7 @@ loop-again c =
     let l = c .before .before .loop in
     let h : l .i < 64 = omega arith in
     let g : l .i < length resetBytes = omega (arith, reset-length) in
-    (omega arith, copied-more (l .inv .1) (omega arith) g (omega arith) (ap (λ (r : Row). r .0) (c .row-at .ensures) ∙ reset-at (l .i) h))
+    (omega arith, copied-more (l .inv .1) (omega arith) g (omega arith) (ap (λ (r : Row). r .0) (c .row-in-table .ensures) ∙ reset-at (l .i) h))
 
 returns : tie.Need-returns Inv-loop μ-loop
 returns c = let l = c .before .loop in copied-all 64 (omega arith) (l .inv .1) ∙ paste-whole (replicate 64 0) resetBytes reset-length

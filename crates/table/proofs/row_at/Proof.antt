@@ -1,8 +1,5 @@
--- The table of the code is compared with the rows of 01 once, by computation; `entry` carries it to each address.
-use borrow.Author.Tests.{lt-ltb, le-ltb}
-use Rattle.laws.proofs.Table.{entry}
+use mathlib.Core.Path.{ap, sym}
 use Rattle.table.specs.Rows.{rowAt, rowOf, lineOf, listed, reservedAddresses, refusedBits}
-use borrow.Author.Needs.{needs}
 use Rattle.table.proofs.row_at.Statement.{statement}
 use Rattle.table.proofs.row_at.Tie as tie
 
@@ -11,7 +8,17 @@ unfolding rowAt rowOf lineOf listed reservedAddresses refusedBits
 row-at-spec =
     tie.close
     (tie.spec
-    (λ c. search needs)
-    (λ c. search needs)
-    (λ c. simp (lt-ltb _ _ (c .before .if1 .taken)) (entry rowOf _ 64 (c .before .before .args .address) (c .before .if1 .taken)))
-    (λ c. simp (le-ltb _ _ (c .if1 .left))))
+    (λ c κs. tt)
+    (λ c. ap rowAt (sym (c .match .keys1)))
+    (λ c. ap rowAt (sym (c .match .keys2)))
+    (λ c. ap rowAt (sym (c .match .keys3)))
+    (λ c. ap rowAt (sym (c .match .keys4)))
+    (λ c. ap rowAt (sym (c .match .keys5)))
+    (λ c. ap rowAt (sym (c .match .keys6)))
+    (λ c. ap rowAt (sym (c .match .keys7)))
+    (λ c. ap rowAt (sym (c .match .keys8)))
+    (λ c. ap rowAt (sym (c .match .keys9)))
+    (λ c. ap rowAt (sym (c .match .keys10)))
+    (λ c. ap rowAt (sym (c .match .keys11)))
+    (λ c. ap rowAt (sym (c .match .keys12)))
+    (λ c. c .row-from-20 .ensures))
