@@ -8,7 +8,7 @@ use Rattle.registers.specs.Refused.{readAnswer}
 use Rattle.registers.specs.declared.Answer.the-variants.{Done}
 use Rattle.device.specs.Device as device
 use Rattle.device.specs.Write.{writeOf}
-use Rattle.device.specs.Read.{readOf, burstBytes}
+use Rattle.device.specs.Read.{readOf, burstBytes, bufferAfter}
 use Rattle.device.specs.Sample.{sampleOf, cycleOf}
 use Rattle.device.specs.Clock.{clockOf}
 use Rattle.device.specs.declared.Device.{Device}
@@ -45,6 +45,15 @@ bytesAt d (read a n) = pick (accepted (readAnswer a n)) (burstBytes d a n) []
 bytesAt d (sample x y z temperature) = []
 bytesAt d cycle = []
 bytesAt d (clock us) = []
+
+-- the lent buffer after an event: only a read writes there
+abbrev pub lentBy : Device → Event → List ℕ → List ℕ
+lentBy d powerUp buffer = buffer
+lentBy d (write address byte) buffer = buffer
+lentBy d (read address count) buffer = bufferAfter d address buffer
+lentBy d (sample x y z temperature) buffer = buffer
+lentBy d cycle buffer = buffer
+lentBy d (clock us) buffer = buffer
 
 -- what an event gives: its number, and the bytes of an accepted read
 pub record Given : Type 0 where
