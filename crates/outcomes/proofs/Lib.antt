@@ -11,6 +11,7 @@ pub mod SettledMotion
 pub mod SettledDetectors
 pub mod SettledInterrupts
 pub mod SettledDevice
+pub mod SettledEntries
 pub mod SettledFollow
 pub mod SettledPlayback
 pub mod Words

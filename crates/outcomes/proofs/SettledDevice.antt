@@ -1,26 +1,37 @@
 -- Each public function of device: its contract, as its source states it, asks nothing of a call and leaves one outcome.
 -- Assumes nothing.
 use Prim.Native.Nat.{ℕ}
-use mathlib.Core.List.{List}
+use mathlib.Core.List.{List, []}
 use mathlib.Core.Path.{_≡_, refl}
-use Rattle.device.specs.declared.Answered.{Answered}
+use denote.Ref.{now}
 use Rattle.laws.specs.Outcome.{Settled}
 use Rattle.laws.proofs.Outcome.{settles, meet}
-use Rattle.device.proofs.Holding.{answered}
+use Rattle.device.specs.Device.{powerUp}
+use Rattle.device.specs.Parts.{coreOf, answeredWhole}
+use Rattle.device.specs.declared.parts.CoreAnswered.{CoreAnswered}
 use Rattle.device.proofs.Device.power_up as power-up
 use Rattle.device.proofs.Device.write as write
 use Rattle.device.proofs.Device.read as read
 use Rattle.device.proofs.Device.sample as sample
-use Rattle.device.proofs.Device.write_in as write-in
-use Rattle.device.proofs.Device.read_in as read-in
-use Rattle.device.proofs.Device.sample_in as sample-in
-use Rattle.device.proofs.Device.with_rest_of as with-rest-of
 use Rattle.device.proofs.Device.start_cycle as start-cycle
 use Rattle.device.proofs.Device.clock as clock
 use Rattle.device.proofs.Device.pins as pins
 use Rattle.device.proofs.Device.held as held
 use Rattle.device.proofs.Device.range as range
 use Rattle.device.proofs.Device.mode as mode
+use Rattle.device.proofs.Device.core as core
+use Rattle.device.proofs.Device.registers as registers
+use Rattle.device.proofs.Device.frames as frames
+use Rattle.device.proofs.Device.of_parts as of-parts
+use Rattle.device.proofs.parts.Core.write as core-write
+use Rattle.device.proofs.parts.Core.read as core-read
+use Rattle.device.proofs.parts.Core.sample as core-sample
+use Rattle.device.proofs.parts.Core.start_cycle as core-start-cycle
+use Rattle.device.proofs.parts.Core.clock as core-clock
+use Rattle.device.proofs.parts.Core.pins as core-pins
+use Rattle.device.proofs.parts.Core.held as core-held
+use Rattle.device.proofs.parts.range_in as range-in
+use Rattle.device.proofs.parts.mode_in as mode-in
 use Rattle.outcomes.proofs.Plain.{plain}
 
 power-up-settled : Settled power-up.ended (λ M. power-up.clauses) (λ M. power-up.spec)
@@ -34,29 +45,6 @@ read-settled = settles (λ κs a r r′ s s′ p q. (meet (p .0) (q .0), λ i. (
 
 sample-settled : Settled sample.ended (λ M. sample.clauses) (λ M. sample.spec)
 sample-settled = plain (λ κs a s s′. refl)
-
--- ---- while the store is lent
--- what the answer with the lent store is, and the record's own store: together they are the answer
-apart : (r r′ : Answered) (frames frames′ : List ℕ) → answered r frames ≡ answered r′ frames′ → r .device .frames ≡ r′ .device .frames → r ≡ r′
-apart r r′ frames frames′ e own = λ i. answered (e i) (own i)
-
-write-in-settled : Settled write-in.ended (λ M. write-in.clauses) (λ M. write-in.spec)
-write-in-settled = settles (λ κs a r r′ s s′ p q.
-    let e : answered r (s .1 .0) ≡ answered r′ (s′ .1 .0) = meet (p .0) (q .0) in
-    (apart r r′ _ _ e (meet (p .1) (q .1)), λ i. (tt, (e i .device .frames, (tt, (tt, tt))))))
-
-read-in-settled : Settled read-in.ended (λ M. read-in.clauses) (λ M. read-in.spec)
-read-in-settled = settles (λ κs a r r′ s s′ p q.
-    let e : answered r (s .1 .0) ≡ answered r′ (s′ .1 .0) = meet (p .0) (q .0) in
-    (apart r r′ _ _ e (meet (p .1) (q .1)), λ i. (tt, (e i .device .frames, (tt, (meet (p .2) (q .2) i, tt))))))
-
-sample-in-settled : Settled sample-in.ended (λ M. sample-in.clauses) (λ M. sample-in.spec)
-sample-in-settled = settles (λ κs a r r′ s s′ p q.
-    let e : answered r (s .1 .0) ≡ answered r′ (s′ .1 .0) = meet (p .0) (q .0) in
-    (apart r r′ _ _ e (meet (p .1) (q .1)), λ i. (tt, (e i .device .frames, (tt, (tt, (tt, (tt, tt))))))))
-
-with-rest-of-settled : Settled with-rest-of.ended (λ M. with-rest-of.clauses) (λ M. with-rest-of.spec)
-with-rest-of-settled = plain (λ κs a s s′. refl)
 
 start-cycle-settled : Settled start-cycle.ended (λ M. start-cycle.clauses) (λ M. start-cycle.spec)
 start-cycle-settled = plain (λ κs a s s′. refl)
@@ -75,3 +63,53 @@ range-settled = plain (λ κs a s s′. refl)
 
 mode-settled : Settled mode.ended (λ M. mode.clauses) (λ M. mode.spec)
 mode-settled = plain (λ κs a s s′. refl)
+
+core-settled : Settled core.ended (λ M. core.clauses) (λ M. core.spec)
+core-settled = plain (λ κs a s s′. refl)
+
+registers-settled : Settled registers.ended (λ M. registers.clauses) (λ M. registers.spec)
+registers-settled = plain (λ κs a s s′. refl)
+
+frames-settled : Settled frames.ended (λ M. frames.clauses) (λ M. frames.spec)
+frames-settled = plain (λ κs a s s′. refl)
+
+of-parts-settled : Settled of-parts.ended (λ M. of-parts.clauses) (λ M. of-parts.spec)
+of-parts-settled = plain (λ κs a s s′. refl)
+
+-- ---- the device in parts
+-- what the answer and the device of the parts are, the answer and the core are
+apart : {r r′ : CoreAnswered} {regs regs′ frames frames′ : List ℕ} → answeredWhole r regs frames ≡ answeredWhole r′ regs′ frames′ → r ≡ r′
+apart e = λ i. record { answer = e i .answer; core = coreOf (e i .device) }
+
+core-write-settled : Settled core-write.ended (λ M. core-write.clauses) (λ M. core-write.spec)
+core-write-settled = settles (λ κs a r r′ s s′ p q.
+    let e : answeredWhole r (s .1 .0) (s .1 .1 .0) ≡ answeredWhole r′ (s′ .1 .0) (s′ .1 .1 .0) = meet p q in
+    (apart e, λ i. (tt, (e i .device .regs, (e i .device .frames, (tt, (tt, tt)))))))
+
+core-read-settled : Settled core-read.ended (λ M. core-read.clauses) (λ M. core-read.spec)
+core-read-settled = settles (λ κs a r r′ s s′ p q.
+    let e : answeredWhole r (now (a .1 .0)) (s .1 .1 .0) ≡ answeredWhole r′ (now (a .1 .0)) (s′ .1 .1 .0) = meet (p .0) (q .0) in
+    (apart e, λ i. (tt, (tt, (e i .device .frames, (tt, (meet (p .1) (q .1) i, tt)))))))
+
+core-sample-settled : Settled core-sample.ended (λ M. core-sample.clauses) (λ M. core-sample.spec)
+core-sample-settled = settles (λ κs a r r′ s s′ p q.
+    let e : answeredWhole r (now (a .1 .0)) (s .1 .1 .0) ≡ answeredWhole r′ (now (a .1 .0)) (s′ .1 .1 .0) = meet p q in
+    (apart e, λ i. (tt, (tt, (e i .device .frames, (tt, (tt, (tt, (tt, tt)))))))))
+
+core-start-cycle-settled : Settled core-start-cycle.ended (λ M. core-start-cycle.clauses) (λ M. core-start-cycle.spec)
+core-start-cycle-settled = settles (λ κs a r r′ s s′ p q. (apart (meet (p [] []) (q [] [])), refl))
+
+core-clock-settled : Settled core-clock.ended (λ M. core-clock.clauses) (λ M. core-clock.spec)
+core-clock-settled = settles (λ κs a r r′ s s′ p q. (apart (meet (p [] []) (q [] [])), refl))
+
+core-pins-settled : Settled core-pins.ended (λ M. core-pins.clauses) (λ M. core-pins.spec)
+core-pins-settled = settles (λ κs a r r′ s s′ p q. (meet (p []) (q []), refl))
+
+core-held-settled : Settled core-held.ended (λ M. core-held.clauses) (λ M. core-held.spec)
+core-held-settled = settles (λ κs a r r′ s s′ p q. (meet (p [] []) (q [] []), refl))
+
+range-in-settled : Settled range-in.ended (λ M. range-in.clauses) (λ M. range-in.spec)
+range-in-settled = settles (λ κs a r r′ s s′ p q. (meet (p (coreOf powerUp) []) (q (coreOf powerUp) []), refl))
+
+mode-in-settled : Settled mode-in.ended (λ M. mode-in.clauses) (λ M. mode-in.spec)
+mode-in-settled = settles (λ κs a r r′ s s′ p q. (meet (p (coreOf powerUp) []) (q (coreOf powerUp) []), refl))
