@@ -41,29 +41,35 @@ use denote.Triple.Spec.{tripleOf}
 use denote.Triple.Table.{entered}
 use denote.Triple.Walked.{Stays, AllGo, Walks, walk-meets}
 use denote.Triple.Clauses.{Ended, Clauses, Lasts, atExit, lasts, ensured, closing}
-use Rattle.device.specs.declared.Device.{Device}
-use Rattle.device.proofs.Device as T
-use Rattle.device.proofs.Device.Laws as T′
+use Rattle.device.specs.declared.parts.Core.{Core}
+use Rattle.device.proofs.parts.Core as C
+use Rattle.device.proofs.parts.Core.Laws as C′
+use Rattle.twin.specs.declared.Harness.{Harness}
+use Rattle.twin.proofs.Harness as T
+use Rattle.twin.proofs.Harness.Laws as T′
 
--- the machine value of a device
-abbrev pub dev : Device → Val
-dev = LL.val T.the-type T′.the-laws
+-- the machine value of a record, and of a core
+abbrev pub value : Harness → Val
+value = LL.val T.the-type T′.the-laws
+
+abbrev pub core-value : Core → Val
+core-value = LL.val C.the-type C′.the-laws
 
 module _ {M : Type 1} {𝓤 : URA M} {H : Heap 𝓤} {A : Atoms 𝓤} {K : Type 0} {W : Given 𝓤 H A} {Γ : List (Item 𝓤)} {G : Goal 𝓤 H} where
-  -- the borrow of a device is opened: the device's cell, what closes it again, and that the cell holds a device
-  pub opens-device : K → Soaks G → {κ : Lft} {q : Share} {γ : GName} (h : Device) (b o : ℕ)
-      → (Is T.the-row h (dev h ∷ [])
-      → Seq K W (‵ (cellAt fullShare (T.the-row .mir) (dev h ∷ []) b o) ∷ ‵ (fobor κ q (Body (mem T.the-row) b o γ)) ∷ ‵ (fobs γ (T.the-row .coded .code h)) ∷ ‵ (fauth γ (T.the-row .coded .code h)) ∷ Γ) G)
+  -- the borrow of a record is opened: the record's cell, what closes it again, and that the cell holds a record
+  pub opens-record : K → Soaks G → {κ : Lft} {q : Share} {γ : GName} (h : Harness) (b o : ℕ)
+      → (Is T.the-row h (value h ∷ [])
+      → Seq K W (‵ (cellAt fullShare (T.the-row .mir) (value h ∷ []) b o) ∷ ‵ (fobor κ q (Body (mem T.the-row) b o γ)) ∷ ‵ (fobs γ (T.the-row .coded .code h)) ∷ ‵ (fauth γ (T.the-row .coded .code h)) ∷ Γ) G)
       → Seq K W (‵ (fobs γ (T.the-row .coded .code h)) ∷ ‵ (fbor κ (Body (mem T.the-row) b o γ)) ∷ ‵ (flft κ q) ∷ Γ) G
-  opens-device t z h b o k = opens t z T.the-row {h = h} b o (λ vs.
+  opens-record t z h b o k = opens t z T.the-row {h = h} b o (λ vs.
       spelt t T.the-row (Is T.the-row) (shows 𝓤 H A T.the-row) (LL.vals T.the-type T′.the-laws) (LL.tells T.the-type T′.the-laws) fullShare h vs b o $
-      move t (1 ∷ []) $ facts t T.the-row (Is T.the-row) (shows 𝓤 H A T.the-row) h (dev h ∷ []) k)
+      move t (1 ∷ []) $ facts t T.the-row (Is T.the-row) (shows 𝓤 H A T.the-row) h (value h ∷ []) k)
 
-  -- and closed, with the machine values vs of a device g in the cell
-  pub closes-device : K → Soaks G → {κ : Lft} {q : Share} {γ : GName} {u v : Gv} (g : Device) (vs : List Val) → Is T.the-row g vs → (b o : ℕ)
+  -- and closed, with the machine values vs of a record g in the cell
+  pub closes-record : K → Soaks G → {κ : Lft} {q : Share} {γ : GName} {u v : Gv} (g : Harness) (vs : List Val) → Is T.the-row g vs → (b o : ℕ)
       → Step K W (‵ (fobs γ (T.the-row .coded .code g)) ∷ ‵ (fbor κ (Body (mem T.the-row) b o γ)) ∷ ‵ (flft κ q) ∷ Γ) G
       (‵ (cellAt fullShare (T.the-row .mir) vs b o) ∷ ‵ (fobor κ q (Body (mem T.the-row) b o γ)) ∷ ‵ (fobs γ u) ∷ ‵ (fauth γ v) ∷ Γ) G
-  closes-device t z g vs is b o = step (λ s. owned t T.the-row (Is T.the-row) (LL.makes T.the-type T′.the-plain 𝓤 H A) g vs is $ move t (1 ∷ 0 ∷ []) $ closes t z T.the-row g vs b o $ s)
+  closes-record t z g vs is b o = step (λ s. owned t T.the-row (Is T.the-row) (LL.makes T.the-type T′.the-plain 𝓤 H A) g vs is $ move t (1 ∷ 0 ∷ []) $ closes t z T.the-row g vs b o $ s)
 
   -- what owns a number is had for nothing
   pub has8 : K → (n : ℕ) → n < 2 ^ 8 → Step K W (‵ (u8 .own n (vint w8 n ∷ [])) ∷ Γ) G Γ G
@@ -102,18 +108,16 @@ module _ {M : Type 1} {𝓤 : URA M} {H : Heap 𝓤} {A : Atoms 𝓤} {K : Type 
         → ((v : Val) (r : Result 𝓤 H A F c x .Denot) → φ r → Is (Result 𝓤 H A F c x) r (v ∷ []) → Seq K W Γ (lands C Λ E d v rest q)) → Seq K W Γ (runs C Λ E (seq (call f xs d) rest) q)
     asks t fmc F c met x goes os φ tells k = use0 W (raw (Callee 𝓤 H A F c .pre x)) goes $ calls-at t fmc (Callee 𝓤 H A F c) met x os (λ v. gives-back t tt F c x φ tells v (k v))
 
--- what a callee takes whose one parameter is x, where owning x is had for nothing
-pub alone : {M : Type 1} (𝓤 : URA M) (H : Heap 𝓤) (A : Atoms 𝓤) (W : Given 𝓤 H A) (R : RattleType) (x : R .Denot) (vs : List Val) → ent 𝓤 (emp 𝓤) (sem 𝓤 H A (R .own x vs))
-    → ent 𝓤 (emp 𝓤) (sep 𝓤 (sep 𝓤 (emp 𝓤) (sep 𝓤 (sem 𝓤 H A (R .own x vs)) (emp 𝓤))) (emp 𝓤))
-alone 𝓤 H A W R x vs had = qed W [] ∵ nothing ! $ use0 W (‵ (R .own x vs)) had $ join ! $ nothing ! $ join ! $ frame ! $ done !
+-- a core is had for nothing
+pub had-core : {M : Type 1} (𝓤 : URA M) (H : Heap 𝓤) (A : Atoms 𝓤) (c : Core) (vs : List Val) → Is C.the-row c vs → ent 𝓤 (emp 𝓤) (sem 𝓤 H A (C.the-row .own c vs))
+had-core 𝓤 H A c vs is = LL.makes C.the-type C′.the-plain 𝓤 H A c vs is
 
--- a device is had for nothing
-pub had-device : {M : Type 1} (𝓤 : URA M) (H : Heap 𝓤) (A : Atoms 𝓤) (h : Device) (vs : List Val) → Is T.the-row h vs → ent 𝓤 (emp 𝓤) (sem 𝓤 H A (T.the-row .own h vs))
-had-device 𝓤 H A h vs is = LL.makes T.the-type T′.the-plain 𝓤 H A h vs is
+-- the values of a record, and of a core, are of their MIR types
+pub typed-record : {M : Type 1} {𝓤 : URA M} {H : Heap 𝓤} {A : Atoms 𝓤} (W : Given 𝓤 H A) (g : Harness) (vs : List Val) → Is T.the-row g vs → Typed (T.the-row .mir) vs
+typed-record {𝓤 = 𝓤} {H = H} {A = A} W g vs is = LL.lawful T.the-type T′.the-laws 𝓤 H A W .typed g vs is
 
--- the values of a device are of its MIR type
-pub typed-device : {M : Type 1} {𝓤 : URA M} {H : Heap 𝓤} {A : Atoms 𝓤} (W : Given 𝓤 H A) (g : Device) (vs : List Val) → Is T.the-row g vs → Typed (T.the-row .mir) vs
-typed-device {𝓤 = 𝓤} {H = H} {A = A} W g vs is = LL.lawful T.the-type T′.the-laws 𝓤 H A W .typed g vs is
+pub typed-core : {M : Type 1} {𝓤 : URA M} {H : Heap 𝓤} {A : Atoms 𝓤} (W : Given 𝓤 H A) (c : Core) (vs : List Val) → Is C.the-row c vs → Typed (C.the-row .mir) vs
+typed-core {𝓤 = 𝓤} {H = H} {A = A} W c vs is = LL.lawful C.the-type C′.the-laws 𝓤 H A W .typed c vs is
 
 -- the walk of a function's MIR proves what is stated of the function
 pub proved-by : {M : Type 1} (𝓤 : URA M) (H : Heap 𝓤) (𝓜 : Model 𝓤 H) (𝓖 : GhostRules 𝓤 H) (𝓡 : Running 𝓤 H 𝓜) (E : Ended) (hs : Stays (E .signature .params) (E .kept)) (c : Clauses 𝓤 E)

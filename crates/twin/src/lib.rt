@@ -1,12 +1,14 @@
 // The thin entry of 01 for the bench harness: it borrows the harness's own record and updates it for one event.
 // C calls these functions through library/entry.c, which looks at pointers first; the 4 in their names is the header's major version.
 ghost use mathlib.Core.Path.{_≡_};
+ghost use Prim.Native.Nat.{ℕ};
+ghost use mathlib.Core.List.{List};
 ghost use lib.ListN.{length};
 ghost use prog.Memory.{size, align};
-ghost use Rattle.device.proofs.Device.Laws.{mir as deviceType};
-ghost use Rattle.fifo.specs.Flat.{flatAt};
-ghost use Rattle.device.specs.Device.{powerUp, withFlat};
-ghost use Rattle.twin.specs.Entry.{asked, numberedOf, stepOf, lentAt, pinsCode, levelCode};
+ghost use Rattle.device.specs.Device.{powerUp};
+ghost use Rattle.device.specs.Parts.{whole};
+ghost use Rattle.registers.specs.Answers.{number};
+ghost use Rattle.twin.specs.Entry.{harnessType, deviceIn, asked, stepOf, steppedWhole, lentAt, pinsCode, levelCode};
 use benchlog::CLOCK;
 use benchlog::CYCLE;
 use benchlog::Found;
@@ -14,34 +16,43 @@ use benchlog::READ;
 use benchlog::SAMPLE;
 use benchlog::WRITE;
 use benchlog::found_number_of;
-use device::Answered;
 use device::Device;
+use device::parts::Core;
+use device::parts::CoreAnswered;
 use fifo::ROOM;
 use interrupts::Level;
 use registers::number_of;
 
-// The number of an event's answer, and the device after it.
-pub struct Stepped {
-    pub number: u8,
-    pub device: Device,
+// The harness's own record: the device in parts. C sees its first byte, the chip number.
+#[repr(C)]
+pub struct Harness {
+    regs: [u8; 64],
+    core: Core,
+    frames: [u8; ROOM],
 }
 
-fn numbered(done: Answered) -> Stepped
-    ensures { λ r. ⌜ r ≡ numberedOf done ⌝ }
+// The number of an event's answer, and the core after it.
+pub struct Stepped {
+    pub number: u8,
+    pub core: Core,
+}
+
+fn numbered(done: CoreAnswered) -> Stepped
+    ensures { λ r. ⌜ r ≡ record { number = number (done .answer); core = done .core } ⌝ }
 {
     let answer = done.answer;
-    let device = done.device;
+    let core = done.core;
     Stepped {
         number: number_of(answer),
-        device,
+        core,
     }
 }
 
 // One event, by its kind in the log: a write of a byte, a read of as many bytes as the buffer has, a sample whose temperature is the
-// byte, the start of a cycle, or a clock of so many microseconds. Any other kind is refused. The FIFO's store is lent; the record's own
-// is neither looked at nor changed.
+// byte, the start of a cycle, or a clock of so many microseconds. Any other kind is refused. The registers and the FIFO's store are lent.
 pub fn step(
-    device: Device,
+    core: Core,
+    regs: &mut [u8; 64],
     frames: &mut [u8; ROOM],
     kind: u8,
     address: u8,
@@ -52,20 +63,19 @@ pub fn step(
     buffer: &mut [u8],
     microseconds: u32,
 ) -> Stepped
-    ensures { λ r. ⌜ (record { number = r .number; device = withFlat (r .device) (flatAt (now (frames .exit)) (r .device .fifo)) }
-        ≡ stepOf (withFlat device (flatAt (now (frames .entry)) (device .fifo))) (asked kind address byte x y z (length (now (buffer .entry))) microseconds))
-        × (r .device .frames ≡ device .frames)
-        × (now (buffer .exit) ≡ lentAt (withFlat device (flatAt (now (frames .entry)) (device .fifo))) (asked kind address byte x y z (length (now (buffer .entry))) microseconds) (now (buffer .entry))) ⌝ }
+    ensures { λ r. ⌜ (steppedWhole r (now (regs .exit)) (now (frames .exit))
+        ≡ stepOf (whole core (now (regs .entry)) (now (frames .entry))) (asked kind address byte x y z (length (now (buffer .entry))) microseconds))
+        × (now (buffer .exit) ≡ lentAt (whole core (now (regs .entry)) (now (frames .entry))) (asked kind address byte x y z (length (now (buffer .entry))) microseconds) (now (buffer .entry))) ⌝ }
 {
     match kind {
-        WRITE => numbered(device.write_in(frames, address, byte)),
-        READ => numbered(device.read_in(frames, address, buffer)),
-        SAMPLE => numbered(device.sample_in(frames, x, y, z, byte)),
-        CYCLE => numbered(device.start_cycle()),
-        CLOCK => numbered(device.clock(microseconds)),
+        WRITE => numbered(core.write(regs, frames, address, byte)),
+        READ => numbered(core.read(&*regs, frames, address, buffer)),
+        SAMPLE => numbered(core.sample(&*regs, frames, x, y, z, byte)),
+        CYCLE => numbered(core.start_cycle()),
+        CLOCK => numbered(core.clock(microseconds)),
         _ => Stepped {
             number: found_number_of(Found::WrongRecord),
-            device,
+            core,
         },
     }
 }
@@ -82,19 +92,32 @@ fn level_code(level: Level) -> u8
 }
 
 // Both pin levels in one byte: INT1 in bits 1:0, INT2 in bits 3:2.
-pub fn pins_code(device: Device) -> u8
-    ensures { λ r. ⌜ r ≡ pinsCode device ⌝ }
+pub fn pins_code(core: Core, regs: [u8; 64]) -> u8
+    ensures { λ r. ⌜ ((frames : List ℕ) → r ≡ pinsCode (whole core regs frames)) ⌝ }
 {
-    let pins = device.pins();
+    let pins = core.pins(&regs);
     let first = pins.int1;
     let second = pins.int2;
     level_code(first) + 4 * level_code(second)
 }
 
-// One event, on the harness's own record: its store is lent where it lies, and the rest goes by value.
+impl Harness {
+    // The parts of a device at power-up.
+    fn power_up() -> Self
+        ensures { λ r. ⌜ deviceIn r ≡ powerUp ⌝ }
+    {
+        let device = Device::power_up();
+        let regs = device.registers();
+        let core = device.core();
+        let frames = device.frames();
+        Harness { regs, core, frames }
+    }
+}
+
+// One event, on the harness's own record: its registers and its store are lent where they lie, and the core goes by value.
 #[no_mangle]
 pub extern "C" fn twin_4_proved_event(
-    d: &mut Device,
+    d: &mut Harness,
     kind: u8,
     address: u8,
     byte: u8,
@@ -104,12 +127,13 @@ pub extern "C" fn twin_4_proved_event(
     buffer: &mut [u8],
     microseconds: u32,
 ) -> u8
-    ensures { λ r. ⌜ (r ≡ stepOf (now (d .entry)) (asked kind address byte x y z (length (now (buffer .entry))) microseconds) .number)
-        × (now (d .exit) ≡ stepOf (now (d .entry)) (asked kind address byte x y z (length (now (buffer .entry))) microseconds) .device)
-        × (now (buffer .exit) ≡ lentAt (now (d .entry)) (asked kind address byte x y z (length (now (buffer .entry))) microseconds) (now (buffer .entry))) ⌝ }
+    ensures { λ r. ⌜ (r ≡ stepOf (deviceIn (now (d .entry))) (asked kind address byte x y z (length (now (buffer .entry))) microseconds) .number)
+        × (deviceIn (now (d .exit)) ≡ stepOf (deviceIn (now (d .entry))) (asked kind address byte x y z (length (now (buffer .entry))) microseconds) .device)
+        × (now (buffer .exit) ≡ lentAt (deviceIn (now (d .entry))) (asked kind address byte x y z (length (now (buffer .entry))) microseconds) (now (buffer .entry))) ⌝ }
 {
     let s = step(
-        *d,
+        d.core,
+        &mut d.regs,
         &mut d.frames,
         kind,
         address,
@@ -120,37 +144,37 @@ pub extern "C" fn twin_4_proved_event(
         buffer,
         microseconds,
     );
-    *d = d.with_rest_of(s.device);
+    d.core = s.core;
     s.number
 }
 
 // Power-up of the harness's own record.
 #[no_mangle]
-pub extern "C" fn twin_4_proved_power_up(d: &mut Device)
-    ensures { λ _. ⌜ now (d .exit) ≡ powerUp ⌝ }
+pub extern "C" fn twin_4_proved_power_up(d: &mut Harness)
+    ensures { λ _. ⌜ deviceIn (now (d .exit)) ≡ powerUp ⌝ }
 {
-    *d = Device::power_up();
+    *d = Harness::power_up();
 }
 
 // The pins of the harness's own record.
 #[no_mangle]
-pub extern "C" fn twin_4_proved_pins(d: &Device) -> u8
-    ensures { λ r. ⌜ r ≡ pinsCode (now (d .entry)) ⌝ }
+pub extern "C" fn twin_4_proved_pins(d: &Harness) -> u8
+    ensures { λ r. ⌜ r ≡ pinsCode (deviceIn (now (d .entry))) ⌝ }
 {
-    pins_code(*d)
+    pins_code(d.core, d.regs)
 }
 
 // The bytes of the record, and what its address must be a multiple of.
 #[no_mangle]
 pub extern "C" fn twin_4_proved_size() -> usize
-    ensures { λ r. ⌜ r ≡ size deviceType ⌝ }
+    ensures { λ r. ⌜ r ≡ size harnessType ⌝ }
 {
-    320
+    312
 }
 
 #[no_mangle]
 pub extern "C" fn twin_4_proved_alignment() -> usize
-    ensures { λ r. ⌜ r ≡ align deviceType ⌝ }
+    ensures { λ r. ⌜ r ≡ align harnessType ⌝ }
 {
-    8
+    4
 }

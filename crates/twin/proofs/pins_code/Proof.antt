@@ -26,4 +26,4 @@ pins-code-spec =
     (λ c κs. tt)
     (λ c. let p = c .before .before .pins .result in record { fits = omega (arith, within (p .int2) (c .level-code2 .ensures)) })
     (λ c. let p = c .before .before .pins .result in record { fits = omega (arith, within (p .int1) (c .before .level-code .ensures), within (p .int2) (c .level-code2 .ensures)) })
-    (λ c. simp (c .before .level-code .ensures, c .level-code2 .ensures, c .before .before .pins .ensures)))
+    (λ c frames. simp (c .before .level-code .ensures, c .level-code2 .ensures, c .before .before .pins .ensures frames)))

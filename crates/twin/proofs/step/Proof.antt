@@ -1,9 +1,7 @@
-use mathlib.Core.Path.{ap, refl}
+use mathlib.Core.Path.{ap}
 use mir.Facts.{toZ-ofZ}
 use borrow.Author.Needs.{needs}
 use borrow.Author.Tests.{ne-eqb}
-use Rattle.device.specs.Sample.{cycleOf}
-use Rattle.device.specs.Clock.{clockOf}
 use Rattle.twin.specs.Entry.{asked, numberedOf}
 use Rattle.twin.proofs.step.Statement.{statement}
 use Rattle.twin.proofs.step.Tie as tie
@@ -11,36 +9,35 @@ use Rattle.twin.proofs.step.Tie as tie
 write-returns : tie.Need-returns
 unfolding asked
 write-returns c =
-    let k = c .before .before .before .match .keys1 in
-    let done = c .before .write-in .ensures in
-    (rw (k, c .numbered .ensures) (ap numberedOf (done .0)), rw (c .numbered .ensures) (done .1), simp (k))
+    let k = c .before .before .before .before .match .keys1 in
+    (rw (k, c .numbered .ensures) (ap numberedOf (c .before .write .ensures)), simp (k))
 
 read-returns : tie.Need-returns-2
 unfolding asked
 read-returns c =
-    let k = c .before .before .before .before .before .before .match .keys2 in
-    let done = c .before .before .before .read-in .ensures in
-    (rw (k, c .numbered2 .ensures) (ap numberedOf (done .0)), rw (c .numbered2 .ensures) (done .1), rw (k) (done .2))
+    let k = c .before .before .before .before .before .before .before .match .keys2 in
+    let done = c .before .before .before .read .ensures in
+    (rw (k, c .numbered2 .ensures) (ap numberedOf (done .0)), rw (k) (done .1))
 
 sample-returns : tie.Need-returns-3
 unfolding asked
 sample-returns c =
-    let k = c .before .before .before .match .keys3 in
-    let f = c .before .before .before .before .before .fits in
-    let done = rw (toZ-ofZ (f .x), toZ-ofZ (f .y), toZ-ofZ (f .z)) at (c .before .sample-in .ensures) in
-    (rw (k, c .numbered3 .ensures) (ap numberedOf (done .0)), rw (c .numbered3 .ensures) (done .1), simp (k))
+    let k = c .before .before .before .before .match .keys3 in
+    let f = c .before .before .before .before .before .before .fits in
+    let done = rw (toZ-ofZ (f .x), toZ-ofZ (f .y), toZ-ofZ (f .z)) at (c .before .sample .ensures) in
+    (rw (k, c .numbered3 .ensures) (ap numberedOf done), simp (k))
 
 cycle-returns : tie.Need-returns-4
-unfolding asked cycleOf
+unfolding asked
 cycle-returns c =
     let k = c .before .before .match .keys4 in
-    (simp (k, c .numbered4 .ensures, c .before .start-cycle .ensures), simp (c .numbered4 .ensures, c .before .start-cycle .ensures), simp (k))
+    (rw (k, c .numbered4 .ensures) (ap numberedOf (c .before .start-cycle .ensures _ _)), simp (k))
 
 clock-returns : tie.Need-returns-5
-unfolding asked clockOf
+unfolding asked
 clock-returns c =
     let k = c .before .before .match .keys5 in
-    (simp (k, c .numbered5 .ensures, c .before .clock .ensures), simp (c .numbered5 .ensures, c .before .clock .ensures), simp (k))
+    (rw (k, c .numbered5 .ensures) (ap numberedOf (c .before .clock .ensures _ _)), simp (k))
 
 refused-returns : tie.Need-returns-6
 unfolding asked
@@ -51,7 +48,7 @@ refused-returns c =
     let is3 = ne-eqb _ 3 (n .0 .0 .1) in
     let is4 = ne-eqb _ 4 (n .0 .1) in
     let is5 = ne-eqb _ 5 (n .1) in
-    (simp (is1, is2, is3, is4, is5, c .found-number-of .ensures), refl, simp (is1, is2, is3, is4, is5))
+    (simp (is1, is2, is3, is4, is5, c .found-number-of .ensures), simp (is1, is2, is3, is4, is5))
 
 pub step-spec : {M : Type 1} → statement M
 step-spec =

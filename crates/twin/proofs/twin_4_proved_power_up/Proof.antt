@@ -30,13 +30,14 @@ use denote.Triple.Spec.{tripleOf}
 use denote.Triple.Table.{cited}
 use denote.Triple.Walked.{says, Stays, stay-ref, walkOf, goes-ref, Walks, ends-at, walked}
 use Rattle.device.specs.Device.{powerUp}
-use Rattle.device.specs.declared.Device.{Device}
-use Rattle.device.proofs.Device as T
-use Rattle.device.proofs.Device.power_up as g
-use Rattle.device.proofs.Device.power_up.Symbol as g-def
-use Rattle.device.proofs.Device.power_up.Symbol.{name as #power-up}
-use Rattle.device.proofs.Device.power_up.Met as g-thm
-use Rattle.twin.proofs.Walk.{opens-device, closes-device, typed-device, asks, proved-by}
+use Rattle.twin.specs.Entry.{deviceIn}
+use Rattle.twin.specs.declared.Harness.{Harness}
+use Rattle.twin.proofs.Harness as T
+use Rattle.twin.proofs.Harness.power_up as g
+use Rattle.twin.proofs.Harness.power_up.Symbol as g-def
+use Rattle.twin.proofs.Harness.power_up.Symbol.{name as #power-up}
+use Rattle.twin.proofs.Harness.power_up.Met as g-thm
+use Rattle.twin.proofs.Walk.{opens-record, closes-record, typed-record, asks, proved-by}
 use Rattle.twin.proofs.twin_4_proved_power_up.Key.{name as #twin-4-proved-power-up}
 use Rattle.twin.proofs.twin_4_proved_power_up as f
 use Rattle.twin.proofs.twin_4_proved_power_up.Statement as stated
@@ -49,8 +50,8 @@ stayed = (stay-ref (0 ∷ []) tt (plain (λ _. T.the-row)), tt)
 abbrev Start : {M : Type 1} (𝓤 : URA M) (H : Heap 𝓤) (A : Atoms 𝓤) (at-mem : Memory → SProp 𝓤) (run : Routine → Fun 𝓤) → Contract 𝓤
 Start 𝓤 H A at-mem run = tripleOf 𝓤 H A g.signature (g.spec 𝓤 H A at-mem run)
 
-module _ {M : Type 1} (𝓤 : URA M) (H : Heap 𝓤) (A : Atoms 𝓤) (W : Given 𝓤 H A) (at-mem : Memory → SProp 𝓤) (run : Routine → Fun 𝓤) (κ : Lft) (q : Share) (b o : ℕ) (γ : GName) (h : Device) where
-  abbrev x : RefT Device × Unit {0}
+module _ {M : Type 1} (𝓤 : URA M) (H : Heap 𝓤) (A : Atoms 𝓤) (W : Given 𝓤 H A) (at-mem : Memory → SProp 𝓤) (run : Routine → Fun 𝓤) (κ : Lft) (q : Share) (b o : ℕ) (γ : GName) (h : Harness) where
+  abbrev x : RefT Harness × Unit {0}
   x = (record { ptr = (b, o); name = γ; now = h }, tt)
 
   abbrev at : List Val × Unit {0}
@@ -59,7 +60,7 @@ module _ {M : Type 1} (𝓤 : URA M) (H : Heap 𝓤) (A : Atoms 𝓤) (W : Given
   abbrev Post : Val → SProp 𝓤
   Post = walkOf 𝓤 H A f.ended stayed (f.clauses 𝓤 H A at-mem run) .post (((κ, tt), (q, tt), tt, x, at), tt)
 
-  exits : (r : Device) → r ≡ powerUp → ent 𝓤 (sep 𝓤 (A .obs γ (T.the-row .coded .code r)) (sep 𝓤 (A .bor κ (Body (mem T.the-row) b o γ)) (A .lft κ q))) (Post vunit)
+  exits : (r : Harness) → deviceIn r ≡ powerUp → ent 𝓤 (sep 𝓤 (A .obs γ (T.the-row .coded .code r)) (sep 𝓤 (A .bor κ (Body (mem T.the-row) b o γ)) (A .lft κ q))) (Post vunit)
   exits r e =
       qed W (‵ (fobs γ (T.the-row .coded .code r)) ∷ ‵ (fbor κ (Body (mem T.the-row) b o γ)) ∷ ‵ (flft κ q) ∷ []) ∵
       suffices ! _ (ends-at 𝓤 H A f.ended stayed (f.clauses 𝓤 H A at-mem run) W (((κ, tt), (q, tt), tt, x, at), tt) vunit tt (r, tt) (tt, tt)) $ says ! e $ nothing ! $ move ! (3 ∷ 0 ∷ []) $ join ! $
@@ -79,12 +80,12 @@ module _ {M : Type 1} (𝓤 : URA M) (H : Heap 𝓤) (A : Atoms 𝓤) (W : Given
         -- [obs; the borrow; the token]
         enter ! C Λ code.function (vptr b o ∷ []) _ $
         alloc1 ! (λ l₀. alloc1 ! (λ l₁. alloc1 ! (λ l₂. alloc0 ! $ params1 ! $ pass1 ! (init ! 2 refl (tt, tt)) $ pass0 ! $
-        move ! (6 ∷ 7 ∷ 8 ∷ []) $ opens-device ! tt h b o (λ _.
-        -- [the device's cell; the open borrow; obs; auth; room for _2; …; _1; …; room for _0; …]
-        asks ! fmc g.ended (g.clauses 𝓤 H A at-mem run) known to-start goes-start (no-more !) (λ r. r ≡ powerUp) (λ r ws. id⊢ 𝓤 _) (λ v r e is.
-        land ! (from ! (stop !)) (init ! 4 refl (typed-device W r _ is .0)) $
-        assigns ! (of-opd ! (load ! (from ! (stop !)) (look ! 4 refl))) (from ! (hop ! (look ! 6 refl) (stop !))) (store-raw ! 0 refl (typed-device W r _ is .0)) $
-        assigns ! (of-opd ! (unit-lit !)) (from ! (stop !)) (init ! 8 refl (tt, tt)) $ closes-device ! tt r (v ∷ []) is b o $
+        move ! (6 ∷ 7 ∷ 8 ∷ []) $ opens-record ! tt h b o (λ _.
+        -- [the record's cell; the open borrow; obs; auth; room for _2; …; _1; …; room for _0; …]
+        asks ! fmc g.ended (g.clauses 𝓤 H A at-mem run) known to-start goes-start (no-more !) (λ r. deviceIn r ≡ powerUp) (λ r ws. id⊢ 𝓤 _) (λ v r e is.
+        land ! (from ! (stop !)) (init ! 4 refl (typed-record W r _ is .0)) $
+        assigns ! (of-opd ! (load ! (from ! (stop !)) (look ! 4 refl))) (from ! (hop ! (look ! 6 refl) (stop !))) (store-raw ! 0 refl (typed-record W r _ is .0)) $
+        assigns ! (of-opd ! (unit-lit !)) (from ! (stop !)) (init ! 8 refl (tt, tt)) $ closes-record ! tt r (v ∷ []) is b o $
         -- [obs; the borrow; the token; _2; …; _1; …; _0; …]
         returns ! (look ! 7 refl) $ forget ! 3 refl $ forget ! 5 refl $ forget ! 7 refl $ move ! (7 ∷ 8 ∷ []) $ free1 ! $ move ! (5 ∷ 6 ∷ []) $ free1 ! $ move ! (3 ∷ 4 ∷ []) $ free1 ! $ free0 ! $
         keep ! (0 ∷ 1 ∷ 2 ∷ []) $ by ! (exits r e))))))
@@ -101,4 +102,4 @@ twin-4-proved-power-up-spec 𝓤 H 𝓜 𝓖 𝓡 =
     proved-by 𝓤 H 𝓜 𝓖 𝓡 f.ended stayed (f.clauses 𝓤 H (𝓖 .A) (𝓜 .mem) (𝓡 .run)) code.env #twin-4-proved-power-up code.function (code.unfolded 𝓤 H 𝓜 𝓡)
     (goes-ref 𝓤 H (𝓖 .A) W 1 0 tt (plain (λ _. T.the-row)), tt)
     (λ fm. walks 𝓤 H (𝓖 .A) W (𝓜 .mem) (𝓡 .run) (tables 𝓤 H 𝓜 𝓡 code.env .C) (tables 𝓤 H 𝓜 𝓡 code.env .Λ) fm
-    (cited 𝓤 H (Start 𝓤 H (𝓖 .A) (𝓜 .mem) (𝓡 .run)) 𝓜 𝓡 code.env #power-up g-def.routine code.calls-device·Device·power-up (g-thm.met 𝓤 H 𝓜 𝓖 𝓡)))
+    (cited 𝓤 H (Start 𝓤 H (𝓖 .A) (𝓜 .mem) (𝓡 .run)) 𝓜 𝓡 code.env #power-up g-def.routine code.calls-twin·Harness·power-up (g-thm.met 𝓤 H 𝓜 𝓖 𝓡)))
