@@ -23,13 +23,14 @@ uint8_t proved_pins(const struct twin *twin);
 
 size_t twin_size(void) { return proved_size(); }
 
-size_t twin_alignment(void) { return proved_alignment(); }
+/* The header's record is made of numbers of 8 bytes: its address is a multiple of 8 also where the proved functions need less. */
+size_t twin_alignment(void) { return proved_alignment() > sizeof(uint64_t) ? proved_alignment() : sizeof(uint64_t); }
 
 uint8_t twin_power_up(struct twin *twin) {
     unsigned char *bytes = (unsigned char *)twin; /* which need not be aligned */
     if (twin == NULL) return TWIN_NOT_POWERED;
     for (size_t i = 0; i < sizeof *twin; i++) bytes[i] = 0;
-    if (proved_size() > sizeof *twin || (uintptr_t)twin % proved_alignment() != 0) return TWIN_MISFIT;
+    if (proved_size() > sizeof *twin || (uintptr_t)twin % twin_alignment() != 0) return TWIN_MISFIT;
     proved_power_up(twin);
     return TWIN_DONE;
 }

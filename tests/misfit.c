@@ -57,11 +57,11 @@ static bool is_powered_up(size_t its_size, size_t its_alignment) {
 int main(void) {
     int failed = 0;
     failed += !is_powered_up(1, 1);
-    failed += !is_powered_up(320, 8);
+    failed += !is_powered_up(312, 4);
     failed += !is_powered_up(TWIN_ROOM, 8);
     failed += is_powered_up(TWIN_ROOM + 1, 8);
     failed += is_powered_up(SIZE_MAX, 8);
-    failed += is_powered_up(320, 16);
+    failed += is_powered_up(312, 16);
     printf("6 %d\n", failed);
     return failed != 0;
 }
