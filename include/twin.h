@@ -114,7 +114,7 @@ static inline bool twin_is_bad_buffer(const struct twin *twin, const uint8_t *bu
     uintptr_t record = (uintptr_t)twin, start = (uintptr_t)buffer;
     if (buffer == NULL) return length != 0;
     if (length == 0 || length > TWIN_LONGEST_READ) return false;
-    return start < record ? record - start < length : start - record < TWIN_ROOM;
+    return start - record < TWIN_ROOM || record - start < length; /* the other difference is far beyond both */
 }
 
 /* ---- the events, one function each */
