@@ -9,13 +9,12 @@ use Rattle.registers.specs.Answers.{number}
 use Rattle.interrupts.specs.declared.Level.{Level}
 use Rattle.interrupts.specs.declared.Level.the-variants.{Low, High, Released}
 use Rattle.device.specs.Show.{pinsOf}
-use Rattle.device.specs.Read.{bufferAfter}
 use Rattle.fifo.specs.Store.{room}
 use Rattle.device.proofs.parts.Core.Laws.{mir as coreType}
 use Rattle.device.specs.Parts.{whole}
 use Rattle.device.specs.declared.Device.{Device}
 use Rattle.device.specs.declared.Answered.{Answered}
-use Rattle.events.specs.Event.{Event, powerUp, write, read, sample, cycle, clock, happens}
+use Rattle.events.specs.Event.{Event, write, read, sample, cycle, clock, happens, lentBy}
 use Rattle.benchlog.specs.Answers.{foundNumber}
 use Rattle.benchlog.specs.Format.{writeKind, readKind, sampleKind, cycleKind, clockKind}
 use Rattle.benchlog.specs.declared.Found.the-variants.{WrongRecord}
@@ -62,15 +61,7 @@ abbrev pub stepOf : Device → Option Event → Numbered
 stepOf d (some e) = numberedOf (happens d e)
 stepOf d none = record { number = foundNumber WrongRecord; device = d }
 
--- the lent buffer after an event: only a read writes there
-abbrev pub lentBy : Device → Event → List ℕ → List ℕ
-lentBy d powerUp buffer = buffer
-lentBy d (write address byte) buffer = buffer
-lentBy d (read address count) buffer = bufferAfter d address buffer
-lentBy d (sample x y z temperature) buffer = buffer
-lentBy d cycle buffer = buffer
-lentBy d (clock us) buffer = buffer
-
+-- the lent buffer after it
 abbrev pub lentAt : Device → Option Event → List ℕ → List ℕ
 lentAt d (some e) buffer = lentBy d e buffer
 lentAt d none buffer = buffer
