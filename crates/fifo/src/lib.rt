@@ -121,6 +121,18 @@ fn put(s: &mut [u8], at: usize, frame: &[u8], size: usize)
     }
 }
 
+// The same. A frame of all axes has a length that the compiler knows, so that it is moved at once.
+fn put_frame(s: &mut [u8], at: usize, frame: &[u8], size: usize)
+    requires { ⌜ (at + size ≤ length (now s)) × (size ≤ length (now frame)) ⌝ }
+    ensures { λ _. ⌜ now (s .exit) ≡ paste (now (s .entry)) at (now (frame .entry)) size ⌝ }
+{
+    if size == LONGEST_FRAME {
+        put(s, at, frame, LONGEST_FRAME);
+    } else {
+        put(s, at, frame, size);
+    }
+}
+
 // The n bytes from at on become zeros.
 fn clear(s: &mut [u8], at: usize, n: usize)
     requires { ⌜ at + n ≤ length (now s) ⌝ }
@@ -153,7 +165,7 @@ fn push_frame(s: &mut [u8], held: usize, setting: Setting, frame: &[u8]) -> bool
 {
     let size = setting.size;
     if held < setting.depth {
-        put(s, held * size, frame, size);
+        put_frame(s, held * size, frame, size);
         return true;
     }
     let drops = setting.drops;
@@ -161,7 +173,7 @@ fn push_frame(s: &mut [u8], held: usize, setting: Setting, frame: &[u8]) -> bool
         Drop::Newcomer => {}
         Drop::Oldest => {
             move_forward(&mut *s, size, held * size);
-            put(s, (held - 1) * size, frame, size);
+            put_frame(s, (held - 1) * size, frame, size);
         }
     }
     false

@@ -6,7 +6,7 @@ use mathlib.Core.List.{List, [], _∷_, _++_, append-nil, append-assoc}
 use native.Mathlib.Omega.{arith}
 use native.Mathlib.Nat.{zero-add}
 use native.Mathlib.Numerals.{add-one}
-use lib.ListN.{length, take, drop, getD, set, replicate, length-append, length-set, length-take, length-drop, length-replicate, List·getD-eq-default, replicate-append-replicate}
+use lib.ListN.{length, take, drop, getD, set, replicate, length-append, length-set, length-take, length-drop, length-replicate, replicate-append-replicate}
 use lib.Seq.{paste, paste-zero, paste-suc, getD-take, getD-drop, getD-append-add, take-all, take-length, drop-length, length-take-le, take-at, drop-at, drop-drop, drop-append-add, take-append-le}
 use Rattle.laws.specs.Bytes.{padded, firstOrZeros, zeros, between, movedForward}
 
@@ -62,24 +62,9 @@ unfolding zeros
 zeros-zeros n m = replicate-append-replicate n m 0
 
 -- ---- the first bytes, with zeros past an end
-getD-with-zeros : (bs : List ℕ) (n i : ℕ) → getD (bs ++ zeros n) i 0 ≡ getD bs i 0
-getD-with-zeros [] n i = getD-zeros n i
-getD-with-zeros (b ∷ bs) n zero = refl
-getD-with-zeros (b ∷ bs) n (suc i) = getD-with-zeros bs n i
-
 pub length-first : (n : ℕ) (bs : List ℕ) → length (firstOrZeros n bs) ≡ n
 unfolding firstOrZeros
 length-first n bs = length-take-le n (bs ++ zeros n) (omega (arith, length-append bs (zeros n), length-zeros n))
-
-getD-first : (n : ℕ) (bs : List ℕ) (i : ℕ) → i < n → getD (firstOrZeros n bs) i 0 ≡ getD bs i 0
-unfolding firstOrZeros
-getD-first n bs i h = getD-take n (bs ++ zeros n) i 0 h ∙ getD-with-zeros bs n i
-
-pub first-held : (n k : ℕ) (bs : List ℕ) (i : ℕ) → i < n → i < k → getD bs i 0 ≡ getD (firstOrZeros n (take k bs)) i 0
-first-held n k bs i h g = sym (getD-first n (take k bs) i h ∙ getD-take k bs i 0 g)
-
-pub first-past : (n k : ℕ) (bs : List ℕ) (i : ℕ) → i < n → k ≤ i → 0 ≡ getD (firstOrZeros n (take k bs)) i 0
-first-past n k bs i h g = sym (getD-first n (take k bs) i h ∙ List·getD-eq-default (take k bs) 0 {n = i} (omega (arith, length-take k bs)))
 
 -- only the first n bytes count
 pub first-front : (n : ℕ) (x y : List ℕ) → n ≤ length x → firstOrZeros n (x ++ y) ≡ firstOrZeros n x

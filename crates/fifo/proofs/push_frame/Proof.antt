@@ -39,7 +39,7 @@ push-frame-spec =
     (λ c. omega (arith, more (c .before)))
     (λ c κs. omega (arith, more (c .before)))
     (λ c. search needs)
-    (λ c. (sym (lt-ltb _ _ (c .before .before .before .before .if1 .taken)), c .before .before .put .ensures))
+    (λ c. (sym (lt-ltb _ _ (c .before .before .before .before .if1 .taken)), c .before .before .put-frame .ensures))
     (λ c. search needs)
     (λ c. search needs)
     (λ c. search needs)
@@ -52,4 +52,4 @@ push-frame-spec =
     (λ c.
     let m = c .before .before .before .before .before .before in
     let b = m .before .before in
-    (sym (le-ltb _ _ (b .before .before .if1 .left)), rw (b .enum-told2 .given .1, c .before .before .put2 .ensures, m .move-forward .ensures .1, one-mul))))
+    (sym (le-ltb _ _ (b .before .before .if1 .left)), rw (b .enum-told2 .given .1, c .before .before .put-frame2 .ensures, m .move-forward .ensures .1, one-mul))))
