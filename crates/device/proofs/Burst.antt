@@ -1,4 +1,4 @@
--- A burst is single reads: one more read, and the same over what a burst needs of the device.
+-- A burst over what it needs of the device: one more read, and that its bytes are those of single reads.
 -- Assumes nothing.
 use mathlib.Core.Bool.{Bool}
 use mathlib.Core.Path.{_≡_, refl}
@@ -9,11 +9,11 @@ use lib.ListN.{length, take, set}
 use lib.Seq.{take-suc-set}
 use Rattle.channels.specs.Channels.{afterRead}
 use Rattle.channels.specs.declared.Channels.{Channels}
-use Rattle.device.specs.Device.{withChannels}
 use Rattle.device.specs.Show.{insideOf}
-use Rattle.device.specs.Read.{byteFrom, locks, afterSingles, singleBytes, channelsRead, bytesFrom}
+use Rattle.device.specs.Read.{byteFrom, locks, singleBytes, channelsRead, bytesFrom}
 use Rattle.device.specs.declared.Device.{Device}
 use Rattle.device.specs.declared.showing.Inside.{Inside}
+use Rattle.device.proofs.Laws.{after-is}
 
 module _ (lock : Bool) (c : Channels) (s : Inside) (regs : List ℕ) (a : ℕ) where
   -- one more single read, at the code's i + 1
@@ -27,12 +27,7 @@ module _ (lock : Bool) (c : Channels) (s : Inside) (regs : List ℕ) (a : ℕ) w
   bytes-next l i v k h t e b = rw (add-one i, take-suc-set) (cc)
 
 module _ (d : Device) (a : ℕ) where
-  pub after-is : (n : ℕ) → afterSingles d a n ≡ withChannels d (channelsRead (locks d) (d .channels) a n)
-  unfolding afterSingles channelsRead
-  after-is zero = refl
-  after-is (suc n) = rw (after-is n)
-
   pub given-is : (n : ℕ) → singleBytes d a n ≡ bytesFrom (locks d) (d .channels) (insideOf d) (d .regs) a n
   unfolding singleBytes bytesFrom
   given-is zero = refl
-  given-is (suc n) = rw (given-is n, after-is n)
+  given-is (suc n) = rw (given-is n, after-is d a n)

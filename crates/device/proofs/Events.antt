@@ -28,7 +28,8 @@ use Rattle.device.specs.Read.{readOf, bufferAfter, readoutBytes, locks, 
 use Rattle.device.specs.Sample.{sampleOf, sampleAnswer, afterAccepted, flatSampled}
 use Rattle.device.specs.declared.Device.{Device}
 use Rattle.device.specs.declared.Answered.{Answered}
-use Rattle.device.proofs.Burst.{after-is, given-is}
+use Rattle.device.proofs.Laws.{after-is}
+use Rattle.device.proofs.Burst.{given-is}
 
 -- ---- a write
 module _ (d : Device) (a byte : ℕ) (j : Judged) (is : j ≡ judgement (d .regs) a byte) where

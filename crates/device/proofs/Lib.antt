@@ -1,4 +1,3 @@
+pub mod Laws
 pub mod Burst
 pub mod Events
-pub mod Refused
-pub mod Clock

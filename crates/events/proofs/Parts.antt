@@ -17,8 +17,7 @@ use Rattle.device.specs.Read.{locks, channelsRead, afterReadout, readOf}
 use Rattle.device.specs.Sample.{sampleAnswer, sampleOf, afterAccepted, cycleOf}
 use Rattle.device.specs.Clock.{clockOf}
 use Rattle.device.specs.declared.Device.{Device}
-use Rattle.device.proofs.Burst.{after-is}
-use Rattle.device.proofs.Refused as device-refused
+use Rattle.device.proofs.Laws.{write-refused, after-is}
 use Rattle.events.specs.Event.{Event, powerUp, write, read, sample, cycle, clock, happens}
 use Rattle.events.specs.Run.{next}
 use Rattle.events.specs.Bank.{bankNext}
@@ -94,7 +93,7 @@ module _ (d : Device) (e : Event) where
 pub refused : (d : Device) (e : Event) → accepted (happens d e .answer) ≡ false → next d e ≡ d
 unfolding writeOf readOf sampleOf judgement cycleOf clockOf
 refused d powerUp h = cc
-refused d (write a byte) h = device-refused.write-refused d a byte h
+refused d (write a byte) h = write-refused d a byte h
 refused d (read a n) h = rw h
 refused d (sample x y z t) h = rw h
 refused d cycle h = cc

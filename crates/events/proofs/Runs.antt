@@ -14,7 +14,7 @@ use Rattle.device.specs.Device.{firstBytes}
 use Rattle.device.specs.Write.{regsReset}
 use Rattle.device.specs.declared.Device.{Device}
 use Rattle.device.specs.declared.Answered.{Answered}
-use Rattle.device.proofs.Clock.{clock-sum, clock-none}
+use Rattle.device.proofs.Laws.{clock-sum, clock-none}
 use Rattle.events.specs.Event.{Event, powerUp, write, read, sample, cycle, clock}
 use Rattle.events.specs.Run.{next, after, scriptOnto, onward}
 use Rattle.events.specs.Bank.{bankNext, bank}

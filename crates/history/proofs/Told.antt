@@ -35,7 +35,7 @@ use Rattle.device.specs.Sample.{sampleAnswer, sampleOf, afterAccepted, cycleOf,
 use Rattle.device.specs.Clock.{clockOf}
 use Rattle.device.specs.Write.{writeOf, written}
 use Rattle.device.specs.declared.Device.{Device}
-use Rattle.device.proofs.Burst.{after-is}
+use Rattle.device.proofs.Laws.{after-is}
 use Rattle.events.specs.Event.{Event, powerUp, write, read, sample, cycle, clock}
 use Rattle.events.specs.Run.{after}
 use Rattle.history.specs.Chip.{since}

@@ -33,7 +33,7 @@ use Rattle.device.specs.Clock.{clockOf}
 use Rattle.device.specs.declared.Device.{Device}
 use Rattle.events.specs.Event.{Event, powerUp, write, read, sample, cycle, clock, gives}
 use Rattle.events.specs.Run.{next}
-use Rattle.device.proofs.Refused.{write-refused, read-refused, sample-refused}
+use Rattle.device.proofs.Laws.{write-refused, read-refused, sample-refused}
 use Rattle.benchlog.specs.Answers.{foundNumber, beginsNumber, roomNumber}
 use Rattle.benchlog.specs.Reader.{foundIn, readHead, readAt, readVersion}
 use Rattle.benchlog.specs.Writer.{roomFor, writtenAs, written, placedAs, outAfter}
