@@ -1,3 +1,3 @@
 pub mod Laws
-pub mod Burst
-pub mod Events
+mod Burst
+mod Events
