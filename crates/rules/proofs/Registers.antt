@@ -16,21 +16,17 @@ use Rattle.codes.specs.Addresses.{rangeAt, controlAt, resetAt, enablesAt, level
 use Rattle.codes.specs.Range.{rangeOf, isReservedRange}
 use Rattle.codes.specs.Mode.{modeOf, isReservedMode}
 use Rattle.table.specs.Rows.{listed, reservedAddresses, lineOf, refusedBits, rowOf, rowAt, resetBytes, merged, writable}
-use Rattle.channels.specs.Channels.{byteAt}
-use Rattle.fifo.specs.Store.{statusAt}
-use Rattle.detectors.specs.Detectors.{motionMarks, detectorsWritten}
+use Rattle.detectors.specs.Detectors.{detectorsWritten}
 use Rattle.interrupts.specs.Statuses.{statusesOf}
-use Rattle.interrupts.specs.Lines.{statusByte}
 use Rattle.registers.specs.Answers.{number, accepted}
 use Rattle.registers.specs.Deeds.{softResetByte, isReset, judgement, deedsOf}
 use Rattle.registers.specs.Refused.{writeAnswer, answerAt, reservedCode, notModelled}
 use Rattle.registers.specs.declared.Answer.the-variants.{Done}
-use Rattle.device.specs.Device.{chipNumber, firstBytes, powerUp, depth, reg}
-use Rattle.device.specs.Show.{insideOf, statusesIn, shownByte}
+use Rattle.device.specs.Device.{chipNumber, firstBytes, powerUp, reg}
+use Rattle.device.specs.Show.{shownByte}
 use Rattle.device.specs.Read.{byteFrom, singleByte, isData}
 use Rattle.device.specs.Write.{writeOf, written, regsReset}
 use Rattle.device.specs.declared.Device.{Device}
-use Rattle.device.specs.declared.showing.Inside.{Inside}
 use Rattle.events.specs.Event.{Event, write, read, answer, bytes, gives}
 use Rattle.events.specs.Run.{next, after, told}
 use Rattle.events.specs.Bank.{bank, stored}
@@ -54,20 +50,18 @@ data-address = alike isData (isIn dataAddresses) 64 refl
 
 tabled-byte : (d : Device) (a : ℕ) → a < 64 → isTabled a ≡ true → singleByte d a ≡ reg d a
 unfolding byteFrom shownByte
-tabled-byte d a h t = rw (lt-ltb a 64 h, data-address a h) (go (isIn dataAddresses a) (eqb a 0x08) (eqb a 0x09) (eqb a 0x0A) (eqb a 0x0B) (eqb a 0x0E) t)
+tabled-byte d a h t = rw (lt-ltb a 64 h, data-address a h) (go (isIn dataAddresses a) (eqb a 0x08) (eqb a 0x09) (eqb a 0x0A) (eqb a 0x0B) (eqb a 0x0E) _ _ _ _ _ _ t)
   where
-    s : Inside
-    s = insideOf d
-
-    go : (p q r u v w : Bool) → not (either p (either q (either r (either u (either v (either w false)))))) ≡ true
-        → pick p (byteAt (d .channels) a) (pick q (s .temperature) (pick r (statusByte 0x09 (statusesIn (d .regs) s)) (pick u (statusByte 0x0A (statusesIn (d .regs) s)) (pick v (motionMarks (s .detectors)) (pick w (statusAt depth (s .fifo)) (reg d a)))))) ≡ reg d a
-    go true q r u v w e = cc
-    go false true r u v w e = cc
-    go false false true u v w e = cc
-    go false false false true v w e = cc
-    go false false false false true w e = cc
-    go false false false false false true e = cc
-    go false false false false false false e = refl
+    -- whatever the bytes that show there
+    go : (p q r u v w : Bool) (c t s₁ s₂ m f : ℕ) → not (either p (either q (either r (either u (either v (either w false)))))) ≡ true
+        → pick p c (pick q t (pick r s₁ (pick u s₂ (pick v m (pick w f (reg d a)))))) ≡ reg d a
+    go true q r u v w c t s₁ s₂ m f e = cc
+    go false true r u v w c t s₁ s₂ m f e = cc
+    go false false true u v w c t s₁ s₂ m f e = cc
+    go false false false true v w c t s₁ s₂ m f e = cc
+    go false false false false true w c t s₁ s₂ m f e = cc
+    go false false false false false true c t s₁ s₂ m f e = cc
+    go false false false false false false c t s₁ s₂ m f e = refl
 
 -- of these addresses the byte is that of the last write that was stored, since reset, or the reset byte
 pub reads-tabled : (es : List Event) (a : ℕ) → a < 0x3F → isTabled a ≡ true → gives (after es) (read a 1) ≡ bytes (stored es a ∷ [])
