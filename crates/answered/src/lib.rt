@@ -1,0 +1,1 @@
+// What the answer prints as the range after any events. There is no code here.
