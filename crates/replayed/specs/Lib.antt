@@ -1,0 +1,3 @@
+pub mod Events
+pub mod Lines
+pub mod Replayed
