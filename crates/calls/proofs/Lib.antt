@@ -1,0 +1,4 @@
+pub mod Kind
+pub mod PinCodes
+pub mod Calls
+pub mod Contract
