@@ -1,2 +1,3 @@
+pub mod Clears
 pub mod Demand2
 pub mod Watermark
