@@ -4,6 +4,7 @@
 # is neither. A definition that is held is not followed: its theorems say what it comes to, and the file of one of them has to speak of it, or
 # of a listed definition that is made of it.
 # use: awk -f tests/believed.awk docs/PROMISES.md crates/*/specs/*.antt
+# And a row of its sentences that is marked E or C has to have a listed statement and a theorem, one marked D a definition, one marked T a reason.
 # It prints "= PLACE TAB LINES TAB COUNT" for each row that lists, "! WORDS" for what is not so, and "# NAMES" at the end.
 
 # the names between back quotes in a text, into the array `quoted`; how many
@@ -64,7 +65,27 @@ function indent(line) {
     return RLENGTH
 }
 
+# a row of the sentences: by which letter, its statement, its theorem and its definition
+function sentence(by, statement, theorem, definition, n, i, some) {
+    some = 0
+    n = quotes(statement)
+    for (i = 1; i <= n; i++) if (quoted[i] ~ /^[a-z0-9_]*\/specs\//) {
+        some = 1
+        if (by ~ /[EC]/ && !(quoted[i] in listed) && !(file_of(quoted[i]) in listed))
+            print "! docs/PROMISES.md has a sentence by" by "whose statement is not listed: " quoted[i]
+    }
+    if (by ~ /[EC]/ && !(some && theorem ~ /\/proofs\//) || by ~ /D/ && definition !~ /\/specs\// || by ~ /T/ && statement !~ /[a-z]/)
+        print "! docs/PROMISES.md has a sentence by" by "without what that asks for: " $0
+    sentences++
+}
+
 # ---- the page
+FILENAME == ARGV[1] && /^\|.*\| [EDCT] \|/ {
+    split($0, cell, "|")
+    sentence(cell[3], cell[4], cell[5], cell[6])
+    next
+}
+
 FILENAME == ARGV[1] {
     if ($0 !~ /^\| `[a-z0-9_]*\/specs\//) next
     split($0, cell, "|")
@@ -179,5 +200,6 @@ END {
         for (i = 1; i <= n; i++) if (speaks_of("crates/" word[i] ".antt", " " bare users[name] " ")) found = 1
         if (!found) print "! docs/PROMISES.md has " name " as held, and no file of its theorems speaks of it"
     }
-    print "# " names + 0
+    if (!sentences) print "! docs/PROMISES.md has no sentences"
+    print "# " names + sentences
 }
