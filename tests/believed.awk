@@ -1,11 +1,18 @@
-# What docs/PROMISES.md lists as what must be believed, followed into what it rests on. A row lists a file of definitions or one definition of it, with
-# its lines; a row of the other kind names definitions and the theorems that hold them. Whatever a listed file imports from the definitions
-# of a crate, and whatever a listed definition names, has to be listed or held; a type that the source declares is a type of the program and
-# is neither. A definition that is held is not followed: its theorems say what it comes to, and the file of one of them has to speak of it, or
-# of a listed definition that is made of it.
+# What docs/PROMISES.md lists as what must be believed, followed into what it rests on. A row lists a file of definitions or one definition of
+# it, with its lines; a row of the other kind names definitions and the theorems that hold them. Whatever a listed file imports from the
+# definitions of a crate here, and whatever a listed definition names, has to be listed or held. A type that the source declares is a type of
+# the program and is neither; what is of no crate here is the kit's. A definition that is held is not followed: its theorems say what it comes
+# to, and the file of one of them has to speak of it, or of a listed definition that is made of it. And of the rows that have the sentences
+# of 01, one marked E or C has to have a listed statement and a theorem, one marked D a definition, and one marked T a reason.
 # use: awk -f tests/believed.awk docs/PROMISES.md crates/*/specs/*.antt
-# And a row of its sentences that is marked E or C has to have a listed statement and a theorem, one marked D a definition, one marked T a reason.
-# It prints "= PLACE TAB LINES TAB COUNT" for each row that lists, "! WORDS" for what is not so, and "# NAMES" at the end.
+# It prints "= PLACE TAB LINES TAB COUNT" for each row that lists, "! WORDS" for what is not so, and "# NUMBER" of names and sentences at the end.
+
+BEGIN {
+    for (i = 2; i < ARGC; i++) {
+        split(ARGV[i], step, "/")
+        here[step[2]] = 1
+    }
+}
 
 # the names between back quotes in a text, into the array `quoted`; how many
 function quotes(text, n) {
@@ -130,6 +137,7 @@ FNR == 1 {
     if (line !~ /(\{.*\}| as [a-zA-Z]+)$/) print "! " FILENAME ": an import that tests/believed.awk cannot read: " $0
     crate = line
     sub(/[^a-z0-9_].*/, "", crate)
+    if (!(crate in here)) next
     sub(/^[^.]*\./, "", line)
     place = line
     sub(/(\.\{| as ).*/, "", place)
