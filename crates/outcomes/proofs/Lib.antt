@@ -17,5 +17,6 @@ pub mod SettledPlayback
 pub mod Words
 pub mod Refusals
 pub mod LogRefusals
+pub mod Demand1
 pub mod Contracts
 pub mod Printed

@@ -1,3 +1,4 @@
 pub mod Numbers
 pub mod LogNumbers
+pub mod Demand1
 pub mod PrintedCases
