@@ -1,4 +1,5 @@
 pub mod Numbers
 pub mod LogNumbers
 pub mod Demand1
+pub mod Promises
 pub mod PrintedCases
