@@ -2,9 +2,9 @@
 -- Assumes nothing.
 use Prim.Native.Nat.{ℕ, _≤_}
 use mathlib.Core.Bool.{Bool, true, false}
-use mathlib.Core.Logic.{_≢_}
+use mathlib.Core.Logic.{_↔_, _≢_}
 use mathlib.Core.Option.{Option, some, none}
-use mathlib.Core.Path.{_≡_, refl, sym, ap, _∙_}
+use mathlib.Core.Path.{_≡_, refl, sym, ap, subst, _∙_}
 use native.Mathlib.Omega.{arith}
 use lib.Dec.{eqb}
 use lib.ListN.{length}
@@ -16,11 +16,13 @@ use Rattle.device.specs.Parts.{coreOf, registersOf, framesOf}
 use Rattle.device.specs.declared.Device.{Device}
 use Rattle.events.specs.Event.{Event, powerUp, write, read, sample, cycle, clock, gives}
 use Rattle.outcomes.specs.Numbers.{answersTo}
+use Rattle.outcomes.specs.Demand1.{Due, Askable}
+use Rattle.outcomes.proofs.Demand1.{demand1}
 use Rattle.outcomes.proofs.Refusals.{event-unchanged, read-unchanged, nothing-else}
 use Rattle.outcomes.proofs.Words.{no}
 use Rattle.twin.specs.Entry.{deviceIn, asked, stepOf, lentAt}
 use Rattle.twin.specs.declared.Harness.{Harness}
-use Rattle.calls.specs.Calls.{Handed, Seen, requested, Leaves, eventFor, OneCall}
+use Rattle.calls.specs.Calls.{Handed, Typed, Seen, requested, Leaves, eventFor, OneCall}
 
 -- the entry takes 01's numbers for the kinds
 pub requested-is : (c : Handed) → requested c ≡ eventFor c
@@ -101,11 +103,27 @@ module _ (d : Device) (c : Handed) where
       (picked Unchanged (eqb (c .kind) 4) (λ h. (event-unchanged d cycle h .0, refl))
       (picked Unchanged (eqb (c .kind) 5) (λ h. (event-unchanged d (clock (c .microseconds)) h .0, refl)) (λ h. (refl, refl))))))
 
+-- ---- an event that is asked for can be
+module _ (c : Handed) (t : Typed c) where
+  abbrev AskableIf : Option Event → Type 0
+  AskableIf (some e) = Askable e (c .buffer)
+  AskableIf none = Unit {0}
+
+  askable : AskableIf (eventFor c)
+  askable =
+      picked AskableIf (eqb (c .kind) 1) (t .byte)
+      (picked AskableIf (eqb (c .kind) 2) refl (picked AskableIf (eqb (c .kind) 3) tt (picked AskableIf (eqb (c .kind) 4) tt (picked AskableIf (eqb (c .kind) 5) tt tt))))
+
+  exactly : (d : Device) (e : Event) → eventFor c ≡ some e → {number : ℕ} → number ≡ stepOf d (eventFor c) .number → (n : ℕ) → (number ≡ n) ↔ Due e n
+  exactly d e is p = rw (p, is) (demand1 .event d e (c .buffer) (subst AskableIf is askable) .exactly)
+
 -- ---- so of one call
 pub one-call : (h h′ : Harness) (c : Handed) (s : Seen) → Leaves (deviceIn h) c s (deviceIn h′) → OneCall h c s h′
 one-call h h′ c s p =
     let q = rw (requested-is c) at p in
+    let still : s .number ≢ 0 → (h′ ≡ h) × (s .buffer ≡ c .buffer) = λ n. let u = unchanged (deviceIn h) c (λ z. n (q .0 ∙ z)) in (record-is (q .1 ∙ u .0), q .2 ∙ u .1) in
     record {
-      refused = λ n. let u = unchanged (deviceIn h) c (λ z. n (q .0 ∙ z)) in (record-is (q .1 ∙ u .0), q .2 ∙ u .1);
+      refused = still;
       no-kind = (λ is. some-event c (eight-none (deviceIn h) (eventFor c) (sym (q .0) ∙ is)), λ no. q .0 ∙ ap (λ (e : Option Event). stepOf (deviceIn h) e .number) (no-event c no));
+      tabled = λ t e is. record { exactly = exactly c t (deviceIn h) e is (q .0); unchanged = λ n. let u = still n in λ i. (u .0 i, u .1 i) };
     }

@@ -27,6 +27,7 @@ use Rattle.history.specs.History.{accelerometer, twin, Demand3Here}
 use Rattle.rules.specs.Bursts.{isBurst}
 use Rattle.rules.specs.Rules.{ruledFrom}
 use Rattle.rules.specs.Stored.{ByteWrites}
+use Rattle.outcomes.specs.Demand1.{Due, Tabled}
 use Rattle.demand2.specs.Demand2.{Demand2, elsewhere}
 use Rattle.demand2.specs.Watermark.{Watermark}
 use Rattle.twin.specs.Entry.{deviceIn, asked, stepOf, lentAt, pinsCode}
@@ -134,6 +135,8 @@ pub record OneCall (h : Harness) (c : Handed) (s : Seen) (h′ : Harness) : Type
   pub refused : s .number ≢ 0 → (h′ ≡ h) × (s .buffer ≡ c .buffer)
   -- 8, "record length or kind wrong": of any kind but 1 to 5, and of these never. So nothing changes then
   pub no-kind : (s .number ≡ 8) ↔ (¬ ((1 ≤ c .kind) × (c .kind ≤ 5)))
+  -- demand 1: where an event is asked for, each of its numbers is given exactly when 01 says
+  pub tabled : Typed c → (e : Event) → eventFor c ≡ some e → Tabled (Harness × List ℕ) (Due e) (s .number) (h, c .buffer) (h′, s .buffer)
 
 -- ---- power-up and then any calls, whatever the record held before: what was seen, and the record at the end
 pub record Served (cs : List Call) (ss : List Seen) (end : Harness) : Type 0 where
