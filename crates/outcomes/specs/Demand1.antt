@@ -38,11 +38,7 @@ Due (write a byte) =
     else 12 when PowerModeWrite a byte
     else 13 when TestOrTrimWrite a byte
     else done
-Due (read a n) =
-    1 when AboveLast a
-    else 5 when WrongReadLength n
-    else 6 when Passing a n
-    else done
+Due (read a n) = 1 when AboveLast a else 5 when WrongReadLength n else 6 when Passing a n else done
 Due (sample x y z temperature) = 4 when SomeOutside x y z else done
 Due cycle = done
 Due (clock us) = done
