@@ -51,12 +51,14 @@ use Rattle.outcomes.specs.Promises.{OfTheirTypes, Promises}
 use Rattle.outcomes.proofs.Demand1.{demand1}
 
 says : {T : Ended} {claim said : Claim T}
-    → ((κs : Lfts (T .signature .lifetimes)) (a : Args (T .signature) κs) → OfTheirTypes T κs a → (r : Res (T .signature) κs) (e : AtExit T κs) → claim κs a r e → said κs a r e)
+    → ((κs : Lfts (T .signature .lifetimes)) (a : Args (T .signature) κs) → OfTheirTypes T κs a
+    → (r : Res (T .signature) κs) (e : AtExit T κs) → claim κs a r e → said κs a r e)
     → Promises T (promised T claim) said
 says {claim = claim} holds = record { claim = claim; asks-nothing = refl; says = holds }
 
 -- whoever calls a function owns its arguments, and in every model of the logic that tells what their types say
-pub types-say : {M : Type 1} (𝓤 : URA M) (H : Heap 𝓤) (A : Atoms 𝓤) (T : Ended) (κs : Lfts (T .signature .lifetimes)) (a : Args (T .signature) κs) (values : Vals (T .signature) κs)
+pub types-say : {M : Type 1} (𝓤 : URA M) (H : Heap 𝓤) (A : Atoms 𝓤)
+    (T : Ended) (κs : Lfts (T .signature .lifetimes)) (a : Args (T .signature) κs) (values : Vals (T .signature) κs)
     → ent 𝓤 (sem 𝓤 H A (owns (typesAt (T .signature .params) κs) a values)) (fact 𝓤 (OfTheirTypes T κs a))
 types-say 𝓤 H A T κs a values =
     let owned = owns (typesAt (T .signature .params) κs) a values in
@@ -84,7 +86,8 @@ alone d e h {after} p q =
 pub core-write-tabled : Promises core-write.ended (λ M. core-write.clauses) (λ κs a r e.
     let d = whole (a .0) (now (a .1 .0)) (now (a .1 .1 .0)) in
     Alone-tabled d (write (a .1 .1 .1 .0) (a .1 .1 .1 .1 .0)) (answeredWhole r (now (e .1 .0)) (now (e .1 .1 .0))))
-core-write-tabled = says (λ κs a typed r e p. alone (whole (a .0) (now (a .1 .0)) (now (a .1 .1 .0))) (write (a .1 .1 .1 .0) (a .1 .1 .1 .1 .0)) (typed .1 .1 .1 .1 .1 .0 .1) p refl)
+core-write-tabled = says (λ κs a typed r e p.
+    alone (whole (a .0) (now (a .1 .0)) (now (a .1 .1 .0))) (write (a .1 .1 .1 .0) (a .1 .1 .1 .1 .0)) (typed .1 .1 .1 .1 .1 .0 .1) p refl)
 
 pub core-read-tabled : Promises core-read.ended (λ M. core-read.clauses) (λ κs a r e.
     let d = whole (a .0) (now (a .1 .0)) (now (a .1 .1 .0)) in
@@ -124,7 +127,8 @@ pub play-tabled : Promises play.ended (λ M. play.clauses) (λ κs a r e.
 play-tabled = says (λ κs a typed r e p.
     let x = a .1 .1 .1 .0 in
     let buffer = now (a .1 .1 .1 .1 .0) in
-    lending (whole (a .0) (now (a .1 .0)) (now (a .1 .1 .0))) (eventInto (length buffer) x) buffer (askable x (typed .0 .1 .1 .1 .0) (typed .1 .1 .1 .1 .0) buffer) (p .0) (p .1))
+    let can = askable x (typed .0 .1 .1 .1 .0) (typed .1 .1 .1 .1 .0) buffer in
+    lending (whole (a .0) (now (a .1 .0)) (now (a .1 .1 .0))) (eventInto (length buffer) x) buffer can (p .0) (p .1))
 
 -- the device by value
 pub write-tabled : Promises write-contract.ended (λ M. write-contract.clauses) (λ κs a r e. Alone-tabled (a .0) (write (a .1 .0) (a .1 .1 .0)) r)
@@ -145,7 +149,8 @@ pub clock-tabled : Promises clock-contract.ended (λ M. clock-contract.clauses) 
 clock-tabled = says (λ κs a typed r e p. alone (a .0) (clock (a .1 .0)) tt p refl)
 
 -- ---- the log's. A reader is lent the log to read alone
-pub read-version-tabled : Promises read-version.ended (λ M. read-version.clauses) (λ κs a r e. Tabled ℕ (DueAtStart (now (a .0))) (beginsNumber (r .begins)) 0 (r .next))
+pub read-version-tabled : Promises read-version.ended (λ M. read-version.clauses) (λ κs a r e.
+    Tabled ℕ (DueAtStart (now (a .0))) (beginsNumber (r .begins)) 0 (r .next))
 read-version-tabled = says (λ κs a typed r e p. rw p (demand1 .start (now (a .0))))
 
 pub read-entry-tabled : Promises read-entry.ended (λ M. read-entry.clauses) (λ κs a r e.

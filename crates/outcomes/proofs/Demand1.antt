@@ -34,7 +34,8 @@ use Rattle.benchlog.specs.declared.Room.the-variants as room
 use Rattle.benchlog.proofs.Heads.{found-stands, stands-whole}
 use Rattle.outcomes.specs.Numbers.{isReservedWrite, isDetectorWrite, isPowerModeWrite, isTestOrTrimWrite}
 use Rattle.outcomes.specs.LogNumbers.{EmptyLog, NotVersionOne, KindOfLength, WrongRecordLength, BodyCut, RightKind, CutAt, WrongAt, RightAt}
-use Rattle.outcomes.specs.Demand1.{_when_else_, done, Due, DueAtStart, recordLength, DueAtPlace, DueFrom, at-end, refused, behind-record, DueOfLog, Tabled, Askable, Demand1}
+use Rattle.outcomes.specs.Demand1.{_when_else_, done, Due, DueAtStart, recordLength, DueAtPlace, DueOfLog, Tabled, Askable, Demand1}
+use Rattle.outcomes.specs.Demand1.{DueFrom, at-end, refused, behind-record}
 use Rattle.outcomes.proofs.Words.{Means, no, less, equal, and, or, outside}
 use Rattle.outcomes.proofs.Refusals as refusals
 use Rattle.outcomes.proofs.LogRefusals as logs
@@ -118,7 +119,8 @@ lent-filled d (sample x y z temperature) buffer h r = refl
 lent-filled d cycle buffer h z = refl
 lent-filled d (clock us) buffer h z = refl
 
-pub event-tabled : (d : Device) (e : Event) (buffer : List ℕ) → Askable e buffer → Tabled (Device × List ℕ) (Due e) (gives d e .number) (d, buffer) (next d e, lentBy d e buffer)
+event-tabled : (d : Device) (e : Event) (buffer : List ℕ) → Askable e buffer
+    → Tabled (Device × List ℕ) (Due e) (gives d e .number) (d, buffer) (next d e, lentBy d e buffer)
 event-tabled d e buffer h = record {
   exactly = exactly (due-one e) (event-due d e buffer h);
   unchanged = λ r. let device = refusals.event-unchanged d e r .0 in let lent = lent-unchanged d e buffer h r in λ i. (device i, lent i);

@@ -91,10 +91,12 @@ Askable (clock us) buffer = Unit {0}
 -- ---- the demand
 pub record Demand1 : Type 0 where
   -- an event, of any device, also one that no events lead to, and with any buffer: number, device and buffer
-  pub event : (d : Device) (e : Event) (buffer : List ℕ) → Askable e buffer → Tabled (Device × List ℕ) (Due e) (gives d e .number) (d, buffer) (next d e, lentBy d e buffer)
+  pub event : (d : Device) (e : Event) (buffer : List ℕ) → Askable e buffer
+      → Tabled (Device × List ℕ) (Due e) (gives d e .number) (d, buffer) (next d e, lentBy d e buffer)
   -- a refused event gives no bytes. One that is done leaves in the buffer, where it is a read, the bytes that it gives
   pub no-bytes : (d : Device) (e : Event) → gives d e .number ≢ 0 → gives d e .bytes ≡ []
-  pub filled : (d : Device) (e : Event) (buffer : List ℕ) → Askable e buffer → gives d e .number ≡ 0 → lentBy d e buffer ≡ atRead buffer (λ a n. gives d e .bytes) e
+  pub filled : (d : Device) (e : Event) (buffer : List ℕ) → Askable e buffer → gives d e .number ≡ 0
+      → lentBy d e buffer ≡ atRead buffer (λ a n. gives d e .bytes) e
   -- Q-1: "3 is never given again". Q-4: "14 is gone"
   pub never-3 : (d : Device) (e : Event) → gives d e .number ≢ 3
   pub never-14 : (d : Device) (e : Event) → gives d e .number ≢ 14
@@ -106,6 +108,8 @@ pub record Demand1 : Type 0 where
   pub whole : (log : List ℕ) (n : ℕ) → (logNumber (readLog log) ≡ n) ↔ DueOfLog log n
   -- 10, "too little room to write a version byte or record", in lent bytes of any length from any place on: the bytes, and the next place
   pub version : (out : List ℕ) (place : ℕ)
-      → Tabled (List ℕ × ℕ) (10 when NoRoomForVersion out place else done) (roomNumber (written out place versionBytes .room)) (out, place) (outAfter out place versionBytes, written out place versionBytes .next)
+      → let w = written out place versionBytes in
+      Tabled (List ℕ × ℕ) (10 when NoRoomForVersion out place else done) (roomNumber (w .room)) (out, place) (outAfter out place versionBytes, w .next)
   pub entry : (out : List ℕ) (place : ℕ) (e : Entry)
-      → Tabled (List ℕ × ℕ) (10 when NoRoomForRecord out place e else done) (roomNumber (written out place (encode e) .room)) (out, place) (outAfter out place (encode e), written out place (encode e) .next)
+      → let w = written out place (encode e) in
+      Tabled (List ℕ × ℕ) (10 when NoRoomForRecord out place e else done) (roomNumber (w .room)) (out, place) (outAfter out place (encode e), w .next)

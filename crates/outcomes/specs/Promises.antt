@@ -16,4 +16,5 @@ OfTheirTypes T κs a = (values : Vals (T .signature) κs) × shadow (owns (types
 pub record Promises (T : Ended) (contract : Written T) (said : Claim T) : Type 3 where
   pub claim : Claim T
   pub asks-nothing : contract ≡ promised T claim
-  pub says : (κs : Lfts (T .signature .lifetimes)) (a : Args (T .signature) κs) → OfTheirTypes T κs a → (r : Res (T .signature) κs) (e : AtExit T κs) → claim κs a r e → said κs a r e
+  pub says : (κs : Lfts (T .signature .lifetimes)) (a : Args (T .signature) κs) → OfTheirTypes T κs a
+      → (r : Res (T .signature) κs) (e : AtExit T κs) → claim κs a r e → said κs a r e
