@@ -171,19 +171,19 @@ clock-tabled = says (λ κs a typed r e p. alone (a .0) (clock (a .1 .0)) tt p r
 -- ---- the log's. A reader is lent the log to read alone
 pub read-version-tabled : Promises read-version.ended (λ M. read-version.clauses) (λ κs a r e.
     Tabled ℕ (DueAtStart (now (a .0))) (beginsNumber (r .begins)) 0 (r .next))
-read-version-tabled = says (λ κs a typed r e p. rw p (demand1 .start (now (a .0))))
+read-version-tabled = says (λ κs a typed r e p. rw p (demand1 .at-start (now (a .0))))
 
 pub read-entry-tabled : Promises read-entry.ended (λ M. read-entry.clauses) (λ κs a r e.
     Tabled ℕ (DueAtPlace (drop (a .1 .0) (now (a .0)))) (foundNumber (r .found)) (a .1 .0) (r .next))
-read-entry-tabled = says (λ κs a typed r e p. rw p (demand1 .place (now (a .0)) (a .1 .0)))
+read-entry-tabled = says (λ κs a typed r e p. rw p (demand1 .at-place (now (a .0)) (a .1 .0)))
 
 pub write-version-tabled : Promises write-version.ended (λ M. write-version.clauses) (λ κs a r e.
     Tabled (List ℕ × ℕ) (10 when NoRoomForVersion (now (a .0)) (a .1 .0) else done) (roomNumber (r .room)) (now (a .0), a .1 .0) (now (e .0), r .next))
-write-version-tabled = says (λ κs a typed r e p. rw (p .0, p .1) (demand1 .version (now (a .0)) (a .1 .0)))
+write-version-tabled = says (λ κs a typed r e p. rw (p .0, p .1) (demand1 .version-room (now (a .0)) (a .1 .0)))
 
 pub write-entry-tabled : Promises write-entry.ended (λ M. write-entry.clauses) (λ κs a r e.
     Tabled (List ℕ × ℕ) (10 when NoRoomForRecord (now (a .0)) (a .1 .0) (a .1 .1 .0) else done) (roomNumber (r .room)) (now (a .0), a .1 .0) (now (e .0), r .next))
-write-entry-tabled = says (λ κs a typed r e p. rw (p .0, p .1) (demand1 .entry (now (a .0)) (a .1 .0) (a .1 .1 .0)))
+write-entry-tabled = says (λ κs a typed r e p. rw (p .0, p .1) (demand1 .record-room (now (a .0)) (a .1 .0) (a .1 .1 .0)))
 
 -- ---- who follows a log: where it says that the log is at its end, the refusal is the number that is due there, 0 where nothing is refused
 abbrev isStop : Next → Bool
@@ -206,7 +206,7 @@ module _ (log : List ℕ) (at room : ℕ) (last : Bool) where
 
   sought-due : Sought-due (soughtOf log at room last)
   unfolding soughtOf
-  sought-due = go (ltb room stepRoom) (either last (decided (drop at log))) (readAt log at .found) (demand1 .place log at .exactly _ .0 refl)
+  sought-due = go (ltb room stepRoom) (either last (decided (drop at log))) (readAt log at .found) (demand1 .at-place log at .exactly _ .0 refl)
     where
       go : (t u : Bool) (f : Found) → DueAtPlace (drop at log) (foundNumber f)
           → let r = pick t Full (pick u Go Wait) in Sought-due (pick (goesOn r) (soughtAs f (readAt log at .next)) (sought.Halt (halted r 0)))
@@ -223,7 +223,7 @@ module _ (begun : Bool) (log : List ℕ) (room : ℕ) (last : Bool) where
 
   opened-due : Opened-due (openedOf begun log room last)
   unfolding openedOf
-  opened-due = go begun (ltb room stepRoom) (either last (hasVersion (length log))) (readVersion log .begins) (demand1 .start log .exactly _ .0 refl)
+  opened-due = go begun (ltb room stepRoom) (either last (hasVersion (length log))) (readVersion log .begins) (demand1 .at-start log .exactly _ .0 refl)
     where
       go : (s t u : Bool) (b : Begins) → DueAtStart log (beginsNumber b)
           → let r = pick t Full (pick u Go Wait) in Opened-due (pick s (opened.At 0) (pick (goesOn r) (openedAs b (readVersion log .next)) (opened.Halt (halted r 0))))

@@ -35,7 +35,7 @@ use Rattle.benchlog.proofs.Heads.{found-stands, stands-whole}
 use Rattle.outcomes.specs.Numbers.{isReservedWrite, isDetectorWrite, isPowerModeWrite, isTestOrTrimWrite}
 use Rattle.outcomes.specs.LogNumbers.{EmptyLog, NotVersionOne, KindOfLength, WrongRecordLength, BodyCut, RightKind, CutAt, WrongAt, RightAt}
 use Rattle.outcomes.specs.Demand1.{_when_else_, done, Due, DueAtStart, recordLength, DueAtPlace, DueOfLog, Tabled, Askable, Demand1}
-use Rattle.outcomes.specs.Demand1.{DueFrom, at-end, refused, behind-record}
+use Rattle.outcomes.specs.Demand1.{DueFrom, at-end, at-refusal, behind-record}
 use Rattle.outcomes.proofs.Words.{Means, no, less, equal, and, or, outside}
 use Rattle.outcomes.proofs.Refusals as refusals
 use Rattle.outcomes.proofs.LogRefusals as logs
@@ -206,13 +206,13 @@ module _ (log : List ℕ) (place : ℕ) where
 -- all that stands from a place on
 from-one : (s : List ℕ) → One (DueFrom s)
 from-one s n m (at-end e p) (at-end f q) = p ∙ sym q
-from-one s n m (at-end e p) (refused h q) = absurd (h (place-one s m 0 q (inl (refl, e))))
+from-one s n m (at-end e p) (at-refusal h q) = absurd (h (place-one s m 0 q (inl (refl, e))))
 from-one s n m (at-end e p) (behind-record some q rest) = absurd (some e)
-from-one s n m (refused h p) (at-end f q) = absurd (h (place-one s n 0 p (inl (refl, f))))
-from-one s n m (refused h p) (refused k q) = place-one s n m p q
-from-one s n m (refused h p) (behind-record some q rest) = absurd (h (place-one s n 0 p q))
+from-one s n m (at-refusal h p) (at-end f q) = absurd (h (place-one s n 0 p (inl (refl, f))))
+from-one s n m (at-refusal h p) (at-refusal k q) = place-one s n m p q
+from-one s n m (at-refusal h p) (behind-record some q rest) = absurd (h (place-one s n 0 p q))
 from-one s n m (behind-record some p rest) (at-end f q) = absurd (some f)
-from-one s n m (behind-record some p rest) (refused k q) = absurd (k (place-one s m 0 q p))
+from-one s n m (behind-record some p rest) (at-refusal k q) = absurd (k (place-one s m 0 q p))
 from-one s n m (behind-record some p rest) (behind-record also q others) = from-one (drop (2 + recordLength s) s) n m rest others
 
 from-due : (log : List ℕ) (k place : ℕ) → length log ≤ place + k → DueFrom (drop place log) (foundNumber (readFrom k log place .last))
@@ -243,16 +243,16 @@ from-due log (suc k) place h = go (readAt log place .found) refl (from-due log k
     go : (f : Found) → readAt log place .found ≡ f → On → DueFrom (drop place log) (foundNumber (andThen f rest .last))
     go (found.Record e) q on = behind e q on
     go found.End q on = at-end (logs.end-when log place .0 q) refl
-    go found.WrongRecord q on = refused {n = 8} (λ e. omega arith) (due-as q)
-    go found.Cut q on = refused {n = 9} (λ e. omega arith) (due-as q)
+    go found.WrongRecord q on = at-refusal {n = 8} (λ e. omega arith) (due-as q)
+    go found.Cut q on = at-refusal {n = 9} (λ e. omega arith) (due-as q)
 
 -- a whole log
-whole-one : (log : List ℕ) → One (DueOfLog log)
-whole-one log = test-one (test-one (from-one (drop 1 log)))
+log-one : (log : List ℕ) → One (DueOfLog log)
+log-one log = test-one (test-one (from-one (drop 1 log)))
 
-whole-due : (log : List ℕ) → DueOfLog log (logNumber (readLog log))
+log-due : (log : List ℕ) → DueOfLog log (logNumber (readLog log))
 unfolding readLog readVersion
-whole-due log = go (first begins.Version (versionRows log)) (logs.log-9 log) (logs.log-7 log)
+log-due log = go (first begins.Version (versionRows log)) (logs.log-9 log) (logs.log-7 log)
   where
     go : (b : Begins) → (beginsNumber (versionReadAs b .begins) ≡ 9) ↔ EmptyLog log → (beginsNumber (versionReadAs b .begins) ≡ 7) ↔ NotVersionOne log
         → DueOfLog log (logNumber (behindVersion (versionReadAs b .begins) (readFrom (length log) log (versionReadAs b .next))))
@@ -281,9 +281,9 @@ demand1 = record {
   filled = lent-filled;
   never-3 = refusals.never-3;
   never-14 = refusals.never-14;
-  start = λ log. record { exactly = exactly (start-one log) (start-due log); unchanged = start-stays log };
-  place = λ log place. record { exactly = exactly (place-one (drop place log)) (found-due log place); unchanged = place-stays log place };
-  whole = λ log. exactly (whole-one log) (whole-due log);
-  version = λ out place. room-tabled out place versionBytes (logs.version-10 out place);
-  entry = λ out place e. room-tabled out place (encode e) (logs.record-10 out place e);
+  at-start = λ log. record { exactly = exactly (start-one log) (start-due log); unchanged = start-stays log };
+  at-place = λ log place. record { exactly = exactly (place-one (drop place log)) (found-due log place); unchanged = place-stays log place };
+  of-log = λ log. exactly (log-one log) (log-due log);
+  version-room = λ out place. room-tabled out place versionBytes (logs.version-10 out place);
+  record-room = λ out place e. room-tabled out place (encode e) (logs.record-10 out place e);
 }

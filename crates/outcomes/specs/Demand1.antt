@@ -65,7 +65,7 @@ DueAtPlace s =
 -- the same of all that stands from a place on: record behind record, up to the end or to what is refused
 pub data DueFrom : List ℕ → ℕ → Type 0 where
   at-end : {s : List ℕ} {n : ℕ} → s ≡ [] → n ≡ 0 → DueFrom s n
-  refused : {s : List ℕ} {n : ℕ} → n ≢ 0 → DueAtPlace s n → DueFrom s n
+  at-refusal : {s : List ℕ} {n : ℕ} → n ≢ 0 → DueAtPlace s n → DueFrom s n
   behind-record : {s : List ℕ} {n : ℕ} → s ≢ [] → DueAtPlace s 0 → DueFrom (drop (2 + recordLength s) s) n → DueFrom s n
 
 -- and of a whole log
@@ -102,14 +102,14 @@ pub record Demand1 : Type 0 where
   pub never-14 : (d : Device) (e : Event) → gives d e .number ≢ 14
   -- a log, of any bytes: what it begins with, and what stands at any place of it, also past its end. A reader is lent the log to read alone,
   -- and where it refuses, the next place is the same
-  pub start : (log : List ℕ) → Tabled ℕ (DueAtStart log) (beginsNumber (readVersion log .begins)) 0 (readVersion log .next)
-  pub place : (log : List ℕ) (place : ℕ) → Tabled ℕ (DueAtPlace (drop place log)) (foundNumber (readAt log place .found)) place (readAt log place .next)
+  pub at-start : (log : List ℕ) → Tabled ℕ (DueAtStart log) (beginsNumber (readVersion log .begins)) 0 (readVersion log .next)
+  pub at-place : (log : List ℕ) (place : ℕ) → Tabled ℕ (DueAtPlace (drop place log)) (foundNumber (readAt log place .found)) place (readAt log place .next)
   -- "every log, however damaged": the number that it is answered when it is read from its start
-  pub whole : (log : List ℕ) (n : ℕ) → (logNumber (readLog log) ≡ n) ↔ DueOfLog log n
+  pub of-log : (log : List ℕ) (n : ℕ) → (logNumber (readLog log) ≡ n) ↔ DueOfLog log n
   -- 10, "too little room to write a version byte or record", in lent bytes of any length from any place on: the bytes, and the next place
-  pub version : (out : List ℕ) (place : ℕ)
+  pub version-room : (out : List ℕ) (place : ℕ)
       → let w = written out place versionBytes in
       Tabled (List ℕ × ℕ) (10 when NoRoomForVersion out place else done) (roomNumber (w .room)) (out, place) (outAfter out place versionBytes, w .next)
-  pub entry : (out : List ℕ) (place : ℕ) (e : Entry)
+  pub record-room : (out : List ℕ) (place : ℕ) (e : Entry)
       → let w = written out place (encode e) in
       Tabled (List ℕ × ℕ) (10 when NoRoomForRecord out place e else done) (roomNumber (w .room)) (out, place) (outAfter out place (encode e), w .next)
