@@ -30,7 +30,6 @@ use Rattle.device.specs.declared.Device.{Device}
 use Rattle.events.specs.Event.{Event, write, read, sample, cycle, clock, happens, lentBy}
 use Rattle.entries.specs.Entries.{eventInto}
 use Rattle.benchlog.specs.Answers.{foundNumber, beginsNumber, roomNumber}
-use Rattle.benchlog.specs.Format.{encode, versionBytes}
 use Rattle.benchlog.specs.Reader.{decided, readAt, readVersion}
 use Rattle.benchlog.specs.declared.Begins.{Begins}
 use Rattle.benchlog.specs.declared.Begins.the-variants as begins
@@ -68,6 +67,7 @@ use Rattle.outcomes.specs.LogNumbers.{NoRoomForVersion, NoRoomForRecord}
 use Rattle.outcomes.specs.Demand1.{_when_else_, done, Due, DueAtStart, DueAtPlace, Tabled, Askable}
 use Rattle.outcomes.specs.Promises.{OfTheirTypes, Promises}
 use Rattle.outcomes.proofs.Words.{no}
+use Rattle.outcomes.proofs.LogRefusals.{encode-spelled}
 use Rattle.outcomes.proofs.Demand1.{demand1}
 
 says : {T : Ended} {claim said : Claim T}
@@ -183,7 +183,7 @@ write-version-tabled = says (λ κs a typed r e p. rw (p .0, p .1) (demand1 .ver
 
 pub write-entry-tabled : Promises write-entry.ended (λ M. write-entry.clauses) (λ κs a r e.
     Tabled (List ℕ × ℕ) (10 when NoRoomForRecord (now (a .0)) (a .1 .0) (a .1 .1 .0) else done) (roomNumber (r .room)) (now (a .0), a .1 .0) (now (e .0), r .next))
-write-entry-tabled = says (λ κs a typed r e p. rw (p .0, p .1) (demand1 .record-room (now (a .0)) (a .1 .0) (a .1 .1 .0)))
+write-entry-tabled = says (λ κs a typed r e p. rw (p .0, p .1, encode-spelled (a .1 .1 .0)) (demand1 .record-room (now (a .0)) (a .1 .0) (a .1 .1 .0)))
 
 -- ---- who follows a log: where it says that the log is at its end, the refusal is the number that is due there, 0 where nothing is refused
 abbrev isStop : Next → Bool

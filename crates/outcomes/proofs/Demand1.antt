@@ -2,13 +2,13 @@
 -- Assumes nothing.
 use Prim.Native.Nat.{ℕ, zero, suc, _+_, _*_, _≤_}
 use mathlib.Core.Bool.{Bool, true, false}
-use mathlib.Core.List.{List, [], _∷_}
+use mathlib.Core.List.{List, [], _∷_, _++_}
 use mathlib.Core.Logic.{_↔_, _⊎_, _≢_, inl, inr, ⊎-elim}
 use mathlib.Core.Path.{_≡_, refl, sym, ap, subst, _∙_}
 use native.Mathlib.Omega.{arith}
 use borrow.Author.Tests.{eqb-true, eq-eqb}
 use lib.Dec.{eqb}
-use lib.ListN.{length, getD, drop, drop-of-length-le}
+use lib.ListN.{length, getD, take, drop, drop-of-length-le}
 use lib.Seq.{drop-drop}
 use Rattle.laws.specs.Choice.{both}
 use Rattle.laws.specs.Refusals.{first}
@@ -19,10 +19,9 @@ use Rattle.events.specs.Run.{next}
 use Rattle.events.specs.Views.{atRead}
 use Rattle.events.proofs.Given.{read-gives}
 use Rattle.benchlog.specs.Answers.{foundNumber, beginsNumber, roomNumber}
-use Rattle.benchlog.specs.Format.{encode, versionBytes}
 use Rattle.benchlog.specs.Reader.{nextOf, versionReadAs, versionRows, readAt, readHead, foundIn, readVersion}
 use Rattle.benchlog.specs.Whole.{AllRead, andThen, readFrom, behindVersion, readLog, logNumber}
-use Rattle.benchlog.specs.Writer.{written, outAfter}
+use Rattle.benchlog.specs.Writer.{roomFor, writtenAs, written, placed, placedAs, outAfter}
 use Rattle.benchlog.specs.declared.Begins.{Begins}
 use Rattle.benchlog.specs.declared.Begins.the-variants as begins
 use Rattle.benchlog.specs.declared.Entry.{Entry}
@@ -33,7 +32,7 @@ use Rattle.benchlog.specs.declared.Room.{Room}
 use Rattle.benchlog.specs.declared.Room.the-variants as room
 use Rattle.benchlog.proofs.Heads.{found-stands, stands-whole}
 use Rattle.outcomes.specs.Numbers.{isReservedWrite, isDetectorWrite, isPowerModeWrite, isTestOrTrimWrite}
-use Rattle.outcomes.specs.LogNumbers.{EmptyLog, NotVersionOne, KindOfLength, WrongRecordLength, BodyCut, RightKind, CutAt, WrongAt, RightAt}
+use Rattle.outcomes.specs.LogNumbers.{EmptyLog, NotVersionOne, KindOfLength, WrongRecordLength, BodyCut, RightKind, CutAt, WrongAt, RightAt, spelled}
 use Rattle.outcomes.specs.Demand1.{_when_else_, done, Due, DueAtStart, recordLength, DueAtPlace, DueOfLog, Tabled, Askable, Demand1}
 use Rattle.outcomes.specs.Demand1.{DueFrom, at-end, at-refusal, behind-record}
 use Rattle.outcomes.proofs.Words.{Means, no, less, equal, and, or, outside}
@@ -273,6 +272,16 @@ room-tabled out place bs ten = record {
   unchanged = λ r. let same = refusals.log-unchanged out place bs r in λ i. (same .0 i, same .1 i);
 }
 
+put-there : (out : List ℕ) (place : ℕ) (bs : List ℕ) → roomNumber (written out place bs .room) ≡ 0
+    → (outAfter out place bs ≡ take place out ++ bs ++ drop (place + length bs) out) × (written out place bs .next ≡ place + length bs)
+unfolding placed
+put-there out place bs = go (roomFor (length out) place (length bs))
+  where
+    go : (r : Room) → roomNumber (writtenAs r place (length bs) .room) ≡ 0
+        → (placedAs r out place bs ≡ take place out ++ bs ++ drop (place + length bs) out) × (writtenAs r place (length bs) .next ≡ place + length bs)
+    go room.Done e = (refl, refl)
+    go room.NoRoom e = absurd (omega arith)
+
 -- ---- the demand
 pub demand1 : Demand1
 demand1 = record {
@@ -284,6 +293,7 @@ demand1 = record {
   at-start = λ log. record { exactly = exactly (start-one log) (start-due log); unchanged = start-stays log };
   at-place = λ log place. record { exactly = exactly (place-one (drop place log)) (found-due log place); unchanged = place-stays log place };
   of-log = λ log. exactly (log-one log) (log-due log);
-  version-room = λ out place. room-tabled out place versionBytes (logs.version-10 out place);
-  record-room = λ out place e. room-tabled out place (encode e) (logs.record-10 out place e);
+  version-room = λ out place. room-tabled out place (1 ∷ []) (logs.version-10 out place);
+  record-room = λ out place e. room-tabled out place (spelled e) (rw (logs.encode-spelled e) at (logs.record-10 out place e));
+  put = put-there;
 }

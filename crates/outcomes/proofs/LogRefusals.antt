@@ -142,7 +142,7 @@ module _ (log : List ℕ) (place : ℕ) where
   record-9 = when (read-exactly log place 9) (cut-at-means (drop place log))
 
 -- ---- a record, byte by byte
-encode-spelled : (e : Entry) → encode e ≡ spelled e
+pub encode-spelled : (e : Entry) → encode e ≡ spelled e
 unfolding encode
 encode-spelled (entry.Write w) = refl
 encode-spelled (entry.Read r) = refl

@@ -1,22 +1,21 @@
 -- Demand 1: "Every event and every log, however damaged, gets an answer, and no caller has to check first. Refusals are given exactly when
 -- document 01 says, and leave device, lent buffer and log as they were." The tests are those of Numbers and LogNumbers, in 01's words.
 use Prim.Native.Nat.{ℕ, _+_, _*_, _<_}
-use mathlib.Core.List.{List, [], _∷_}
+use mathlib.Core.List.{List, [], _∷_, _++_}
 use mathlib.Core.Logic.{_↔_, _⊎_, _≢_}
 use mathlib.Core.Path.{_≡_}
-use lib.ListN.{length, getD, drop}
+use lib.ListN.{length, getD, take, drop}
 use Rattle.device.specs.declared.Device.{Device}
 use Rattle.events.specs.Event.{Event, powerUp, write, read, sample, cycle, clock, gives, lentBy}
 use Rattle.events.specs.Run.{next}
 use Rattle.events.specs.Views.{atRead}
 use Rattle.benchlog.specs.Answers.{foundNumber, beginsNumber, roomNumber}
-use Rattle.benchlog.specs.Format.{encode, versionBytes}
 use Rattle.benchlog.specs.Reader.{readAt, readVersion}
 use Rattle.benchlog.specs.Whole.{readLog, logNumber}
 use Rattle.benchlog.specs.Writer.{written, outAfter}
 use Rattle.benchlog.specs.declared.Entry.{Entry}
 use Rattle.outcomes.specs.Numbers.{AboveLast, ReservedWrite, DetectorWrite, PowerModeWrite, TestOrTrimWrite, SomeOutside, WrongReadLength, Passing}
-use Rattle.outcomes.specs.LogNumbers.{EmptyLog, NotVersionOne, WrongRecordLength, BodyCut, RightKind, NoRoomForVersion, NoRoomForRecord}
+use Rattle.outcomes.specs.LogNumbers.{EmptyLog, NotVersionOne, WrongRecordLength, BodyCut, RightKind, spelled, NoRoomForVersion, NoRoomForRecord}
 
 -- ---- 01, "Numbers given back": "Given exactly when"
 -- tests in their order: n is the number k where its test holds; where it does not, n is what the tests behind it say
@@ -108,8 +107,11 @@ pub record Demand1 : Type 0 where
   pub of-log : (log : List ℕ) (n : ℕ) → (logNumber (readLog log) ≡ n) ↔ DueOfLog log n
   -- 10, "too little room to write a version byte or record", in lent bytes of any length from any place on: the bytes, and the next place
   pub version-room : (out : List ℕ) (place : ℕ)
-      → let w = written out place versionBytes in
-      Tabled (List ℕ × ℕ) (10 when NoRoomForVersion out place else done) (roomNumber (w .room)) (out, place) (outAfter out place versionBytes, w .next)
+      → let w = written out place (1 ∷ []) in
+      Tabled (List ℕ × ℕ) (10 when NoRoomForVersion out place else done) (roomNumber (w .room)) (out, place) (outAfter out place (1 ∷ []), w .next)
   pub record-room : (out : List ℕ) (place : ℕ) (e : Entry)
-      → let w = written out place (encode e) in
-      Tabled (List ℕ × ℕ) (10 when NoRoomForRecord out place e else done) (roomNumber (w .room)) (out, place) (outAfter out place (encode e), w .next)
+      → let w = written out place (spelled e) in
+      Tabled (List ℕ × ℕ) (10 when NoRoomForRecord out place e else done) (roomNumber (w .room)) (out, place) (outAfter out place (spelled e), w .next)
+  -- where there is room, what is written stands from the place on and all else is as it was; the next place is behind it
+  pub put : (out : List ℕ) (place : ℕ) (bs : List ℕ) → roomNumber (written out place bs .room) ≡ 0
+      → (outAfter out place bs ≡ take place out ++ bs ++ drop (place + length bs) out) × (written out place bs .next ≡ place + length bs)
