@@ -2,7 +2,7 @@
 -- Assumes nothing.
 use Prim.Native.Nat.{ℕ, _+_}
 use mathlib.Core.Bool.{Bool, true, false}
-use mathlib.Core.List.{List, [], _∷_}
+use mathlib.Core.List.{List, [], _∷_, _++_}
 use mathlib.Core.Path.{_≡_, refl, ap, _∙_}
 use lib.Dec.{ltb}
 use lib.ListN.{length, set, length-set}
@@ -56,8 +56,14 @@ two-clocks a b d = ap (λ (x : Answered). x .device) (clock-sum a b d)
 pub clock-of-0 : (d : Device) → next d (clock 0) ≡ d
 clock-of-0 d = clock-none d
 
--- ---- scripts
+-- ---- scripts, and events that come later
 pub onward-after : (h es : List Event) → onward (after h) es ≡ after (scriptOnto es h)
 unfolding after
 onward-after h [] = refl
 onward-after h (e ∷ es) = onward-after (e ∷ h) es
+
+-- two histories that leave one device still do when the same events come later
+pub alike-later : (later es fs : List Event) → after es ≡ after fs → after (later ++ es) ≡ after (later ++ fs)
+unfolding after
+alike-later [] es fs h = h
+alike-later (e ∷ later) es fs h = ap (λ (d : Device). next d e) (alike-later later es fs h)

@@ -3,3 +3,4 @@ pub mod Views
 pub mod Run
 pub mod Bank
 pub mod Parts
+pub mod Clocks
