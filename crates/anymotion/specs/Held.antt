@@ -1,15 +1,15 @@
 -- Q-4, in the request's words, over the events since the one that set the status: "The status clears, with marks and runs, when the clock since
 -- its setting reaches that time. Calm points don't clear it sooner; over points don't extend it."
-use Prim.Native.Nat.{ℕ, _+_, _%_, _<_, _≤_}
+use Prim.Native.Nat.{ℕ, _+_, _<_, _≤_}
 use mathlib.Core.Bool.{true, false}
 use mathlib.Core.List.{List, [], _∷_, _++_}
 use mathlib.Core.Path.{_≡_}
-use Rattle.laws.specs.Bits.{bit}
-use Rattle.events.specs.Event.{Event, read, clock, bytes, gives}
+use lib.ListN.{length}
+use Rattle.laws.specs.Bits.{bit, worth}
+use Rattle.events.specs.Event.{Event, write, read, clock, Given, bytes, gives}
 use Rattle.events.specs.Run.{after}
-use Rattle.anymotion.specs.InForce.{timeAsked, restarts, passing}
-use Rattle.anymotion.specs.Status.{points, sets}
-use Rattle.anymotion.specs.Marks.{marksByte}
+use Rattle.anymotion.specs.InForce.{pointsAsked, timeAsked, restarts, brings, passing}
+use Rattle.anymotion.specs.Status.{sets}
 
 -- "the clock since its setting": a sum over the events that came since, whatever they are
 abbrev pub clockOver : List Event → ℕ
@@ -27,14 +27,33 @@ pub record SetFor (es : List Event) (e : Event) (later : List Event) : Type 0 wh
   pub timed : 1 ≤ timeAsked (e ∷ es)
   pub none : NoneRestarts (e ∷ es) later
 
+-- how many samples these events bring: accepted ones, each of which can give one point at the most
+abbrev pub samplesOver : List Event → ℕ
+samplesOver [] = 0
+samplesOver (e ∷ later) = length (brings e) + samplesOver later
+
+-- what a read of one byte gives after a history
+abbrev reads : List Event → ℕ → Given
+reads es a = gives (after es) (read a 1)
+
+-- "The status clears, with marks and runs": as reads show it, where es came before the clock of us microseconds at which it clears
+pub record ClearsAt (es : List Event) (us : ℕ) : Type 0 where
+  -- the status, 0x09 bit 2
+  pub status : reads (clock us ∷ es) 0x09 ≡ bytes (0 ∷ [])
+  -- "with marks", 0x0B bits 2:0; bit 3 is none of these and stays as it was read before
+  pub marked : ℕ
+  pub before : reads es 0x0B ≡ bytes (marked ∷ [])
+  pub marks : reads (clock us ∷ es) 0x0B ≡ bytes (worth 8 (bit 3 marked) ∷ [])
+  -- "and runs": no point from before counts any more. Whatever comes later, while it brings fewer samples than the N of "N over points in a
+  -- row", as it is then in force, the status is not set again
+  pub runs : (later : List Event) → samplesOver later < pointsAsked (later ++ (clock us ∷ es)) → reads (later ++ (clock us ∷ es)) 0x09 ≡ bytes (0 ∷ [])
+  -- and nothing else: "An accepted write to .. 0x21 .. clears status, marks and runs" too. Whatever comes later, each event gives
+  -- what it gives where, in the clock's place, the byte that 0x21 holds is written to it again
+  pub latch : ℕ
+  pub holds : reads es 0x21 ≡ bytes (latch ∷ [])
+  pub no-more : (later : List Event) (e : Event) → gives (after (later ++ (clock us ∷ es))) e ≡ gives (after (later ++ (write 0x21 latch ∷ es))) e
+
 -- until the time is reached the status stands, whatever points came; at the clock that reaches it, it is cleared
 pub record HeldFor (es : List Event) (e : Event) (later : List Event) : Type 0 where
-  pub stands : clockOver later < timeAsked (e ∷ es) → gives (after (later ++ (e ∷ es))) (read 0x09 1) ≡ bytes (4 ∷ [])
-  pub clears : (us : ℕ) → clockOver later < timeAsked (e ∷ es) → timeAsked (e ∷ es) ≤ us + clockOver later
-      → let history = clock us ∷ (later ++ (e ∷ es)) in
-      (gives (after history) (read 0x09 1) ≡ bytes (0 ∷ []))
-      -- "with marks", and bit 3 stays
-      × (marksByte history % 8 ≡ 0)
-      × (bit 3 (marksByte history) ≡ bit 3 (marksByte (later ++ (e ∷ es))))
-      -- "and runs": no point counts any more
-      × (points history ≡ [])
+  pub stands : clockOver later < timeAsked (e ∷ es) → reads (later ++ (e ∷ es)) 0x09 ≡ bytes (4 ∷ [])
+  pub clears : (us : ℕ) → clockOver later < timeAsked (e ∷ es) → timeAsked (e ∷ es) ≤ us + clockOver later → ClearsAt (later ++ (e ∷ es)) us

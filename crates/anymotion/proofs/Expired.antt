@@ -1,0 +1,68 @@
+-- Q-4: what an expiry leaves is what a write to 0x21 leaves, of the byte that it holds: both clear status, marks and runs, and nothing else.
+-- Assumes nothing.
+use Prim.Native.Nat.{ℕ, _-_, _%_}
+use mathlib.Core.Bool.{true}
+use mathlib.Core.List.{List, _∷_}
+use mathlib.Core.Path.{_≡_, refl, sym, ap, _∙_}
+use native.Mathlib.Omega.{arith}
+use lib.Bits.{bitAnd, and-mask, and-zero-r, or-zero-r}
+use lib.Seq.{set-getD}
+use Rattle.table.specs.Rows.{rowAt, rowOf, lineOf, listed, refusedBits, reservedAddresses, merged, writable}
+use Rattle.motion.specs.Detector.{restarted, clocked}
+use Rattle.motion.specs.declared.Motion.{Motion}
+use Rattle.motion.proofs.Clock.{clocked-reached}
+use Rattle.detectors.specs.Detectors.{detectorsClocked, detectorsWritten}
+use Rattle.registers.specs.Answers.{accepted}
+use Rattle.registers.specs.Refused.{reservedCode, notModelled, answerAt, writeAnswer}
+use Rattle.registers.specs.Deeds.{deedsOf, judgement, clears}
+use Rattle.events.specs.Event.{Event, write, clock}
+use Rattle.events.specs.Run.{after}
+use Rattle.events.specs.Bank.{bank, stored}
+use Rattle.events.proofs.Parts.{byParts, by-parts}
+use Rattle.events.proofs.Runs.{bank-is}
+use Rattle.rules.proofs.Proper.{proper}
+use Rattle.rules.proofs.Registers.{registers}
+use Rattle.anymotion.specs.InForce.{timeAsked}
+use Rattle.anymotion.specs.Status.{clockSince, expires}
+use Rattle.anymotion.proofs.Detector.{motionAfter, detector-is, expiry-when, below}
+
+-- ---- the write
+-- Q-4, "14 is gone": 0x21 takes every byte
+latch-accepted : (regs : List ℕ) (byte : ℕ) → accepted (writeAnswer regs 0x21 byte) ≡ true
+unfolding answerAt reservedCode notModelled rowAt rowOf lineOf listed refusedBits
+latch-accepted regs byte = rw (and-zero-r byte)
+
+latch-writable : writable 0x21 ≡ true
+unfolding rowAt rowOf lineOf listed
+latch-writable = refl
+
+-- and what it holds stays as it is when it is written again
+merged-again : (byte : ℕ) → merged (rowAt 0x21) (merged (rowAt 0x21) byte) ≡ merged (rowAt 0x21) byte
+unfolding rowAt rowOf lineOf listed refusedBits reservedAddresses
+merged-again byte =
+    let e : byte % 16 % 16 ≡ byte % 16 = omega arith in
+    rw (or-zero-r (bitAnd byte 0x0F), and-mask byte 4, or-zero-r (bitAnd (byte % 16) 0x0F), and-mask (byte % 16) 4, e)
+
+latch-again : (es : List Event) → merged (rowAt 0x21) (stored es 0x21) ≡ stored es 0x21
+unfolding rowAt rowOf lineOf listed refusedBits reservedAddresses
+latch-again es =
+    let w = proper es .written 0x21 (omega arith) refl in
+    let is : stored es 0x21 ≡ merged (rowAt 0x21) (w .byte) = sym (registers es 0x21) ∙ w .is in
+    rw is (merged-again (w .byte))
+
+-- ---- the clock
+module _ (es : List Event) (us : ℕ) (x : expires es (clock us) ≡ true) where
+  motion-restarts : clocked us (after es .detectors .motion) ≡ restarted (after es .detectors .motion)
+  motion-restarts =
+      let w = expiry-when es (clock us) x in
+      let b = below es (w .0) (w .1) in
+      let r : motionAfter es .alarm .remaining ≡ timeAsked es - clockSince es = rw (w .0) in
+      rw (detector-is es) (clocked-reached (motionAfter es) us (rw r (omega (arith, b))) (rw r (omega (arith, w .2))))
+
+  pub as-written : after (clock us ∷ es) ≡ after (write 0x21 (stored es 0x21) ∷ es)
+  unfolding after judgement deedsOf clears detectorsClocked detectorsWritten
+  as-written =
+      let again = write 0x21 (stored es 0x21) in
+      let same : byParts (after es) (clock us) ≡ byParts (after es) again =
+      rw (motion-restarts, bank-is es, latch-accepted (bank es) (stored es 0x21), latch-writable, latch-again es, set-getD (bank es) 0x21 0) in
+      by-parts (after es) (clock us) ∙ same ∙ sym (by-parts (after es) again)
