@@ -18,5 +18,7 @@ pub mod Words
 pub mod Refusals
 pub mod LogRefusals
 pub mod Demand1
+pub mod RoundTrips
+pub mod TripContracts
 pub mod Contracts
 pub mod Printed
