@@ -1,3 +1,4 @@
 pub mod Digits
 pub mod Cases
 pub mod OneOutcome
+pub mod Arguments
