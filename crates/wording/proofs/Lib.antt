@@ -1,3 +1,4 @@
 pub mod Lines
 pub mod Cases
 pub mod OneOutcome
+pub mod Spelling
