@@ -216,7 +216,7 @@ no-words : toldOf asked.Whole [] ≡ []
 unfolding toldOf
 no-words = refl
 
-pub whole-told : (es : List Event) → length es < lastNumber → (begun : Bool) (refusal : ℕ)
+pub whole-told : (es : List Event) → length es < 2 ^ 64 - 1 → (begun : Bool) (refusal : ℕ)
     → toldOf asked.Whole es ++ endOf asked.Whole begun es refusal ≡ behindAll es ++ overLine begun (length es) refusal
 whole-told [] room begun refusal = rw no-words
 whole-told (e ∷ es) room begun refusal =
