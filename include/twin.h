@@ -26,13 +26,15 @@
  * added, the first where a caller may have to be changed. The first is in the library's symbols, so that what was compiled with a header
  * of another one does not link.
  *
- * Since 4.1 the symbols have it, and the library itself looks at what it is handed, also for a caller without this header; there is a
- * shared library. In 4.0 this header looked: what was compiled with it is compiled anew, as it is. Since 4 there is a clock: twin_event
- * takes microseconds, and 0x21 takes a latch time. Since 3 the watermark stays 1 above its level; 2 showed it at the level alone. */
+ * Since 4.1.1 a buffer that overlaps the record is TWIN_BAD_BUFFER whatever its length is; 4.1.0 passed over those above
+ * TWIN_LONGEST_READ. Since 4.1 the symbols have it, and the library itself looks at what it is handed, also for a caller without this
+ * header; there is a shared library. In 4.0 this header looked: what was compiled with it is compiled anew, as it is. Since 4 there is a
+ * clock: twin_event takes microseconds, and 0x21 takes a latch time. Since 3 the watermark stays 1 above its level; 2 showed it at the
+ * level alone. */
 #define TWIN_VERSION_MAJOR 4
 #define TWIN_VERSION_MINOR 1
-#define TWIN_VERSION_PATCH 0
-#define TWIN_VERSION "4.1.0"
+#define TWIN_VERSION_PATCH 1
+#define TWIN_VERSION "4.1.1"
 
 #ifdef __cplusplus
 extern "C" {
@@ -108,13 +110,13 @@ static inline bool twin_is_powered(const struct twin *twin) {
     return twin != NULL && *(const unsigned char *)twin == TWIN_CHIP;
 }
 
-/* Whether it is NULL with a count, or overlaps the record. A read of no bytes or of more than TWIN_LONGEST_READ touches none: its
- * length is refused. */
+/* Whether it is NULL with a count, or overlaps the record: of whatever length, no buffer that shares a byte with the record gets past
+ * this. One of no bytes shares none. */
 static inline bool twin_is_bad_buffer(const struct twin *twin, const uint8_t *buffer, size_t length) {
     uintptr_t record = (uintptr_t)twin, start = (uintptr_t)buffer;
     if (buffer == NULL) return length != 0;
-    if (length == 0 || length > TWIN_LONGEST_READ) return false;
-    return start - record < TWIN_ROOM || record - start < length; /* the other difference is far beyond both */
+    if (length == 0) return false;
+    return start < record ? record - start < length : start - record < TWIN_ROOM; /* without a sum, which might pass the last address */
 }
 
 /* ---- the events, one function each */

@@ -8,7 +8,7 @@ unsigned char twin_4_event(void *record, unsigned char kind, unsigned char addre
                            unsigned char *buffer, unsigned long length, unsigned microseconds);
 unsigned char twin_4_pins(const void *record);
 
-enum { ROOM = 512, NOT_POWERED = 255, BAD_BUFFER = 254, MISFIT = 253 };
+enum { ROOM = 512, BAD_LENGTH = 5, NOT_POWERED = 255, BAD_BUFFER = 254, MISFIT = 253 };
 static long checks, failed;
 #define HOLDS(fact) do { checks++; if (!(fact)) { failed++; fprintf(stderr, "tests/bare.c:%d: %s\n", __LINE__, #fact); } } while (0)
 
@@ -35,6 +35,8 @@ int main(void) {
     HOLDS(twin_4_event(record, 2, 0, 0, 0, 0, 0, &id, 1, 0) == 0 && id == 0xFA);
     HOLDS(twin_4_event(record, 2, 0, 0, 0, 0, 0, NULL, 1, 0) == BAD_BUFFER);
     HOLDS(twin_4_event(record, 2, 0, 0, 0, 0, 0, record + ROOM - 1, 1, 0) == BAD_BUFFER);
+    HOLDS(twin_4_event(record, 2, 0, 0, 0, 0, 0, record + ROOM - 1, 300, 0) == BAD_BUFFER);
+    HOLDS(twin_4_event(record, 2, 0, 0, 0, 0, 0, record + ROOM, 300, 0) == BAD_LENGTH);
     HOLDS(twin_4_event(record, 4, 0, 0, 0, 0, 0, NULL, 0, 0) == 0);
     printf("%ld %ld\n", checks, failed);
     return failed != 0;

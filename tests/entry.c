@@ -67,7 +67,7 @@ static void refused_events(struct twin *twin) {
     HOLDS(twin_sample(twin, 0, INT_MIN, 0, 0) == TWIN_OUT_OF_RANGE);
     HOLDS(twin_read(twin, 0x3F, buffer, 0) == TWIN_BAD_LENGTH);
     HOLDS(twin_read(twin, 0x3F, buffer, 193) == TWIN_BAD_LENGTH);
-    HOLDS(twin_read(twin, 0x00, buffer, SIZE_MAX) == TWIN_BAD_LENGTH);
+    HOLDS(twin_read(twin, 0x00, buffer, 193) == TWIN_BAD_LENGTH);
     HOLDS(twin_read(twin, 0x3E, buffer, 2) == TWIN_PAST_END);
     HOLDS(same(&before, twin) && all(buffer, sizeof buffer, FILL));
 }
@@ -161,27 +161,52 @@ static void not_powered_up(void) {
     HOLDS(twin_write(&twin, 0x0F, 0x03) == TWIN_DONE);
 }
 
-/* a buffer of each place and some lengths around the record: refused exactly where the two overlap, and then nothing changes */
+/* a buffer of each place and some lengths around the record: refused exactly where the two overlap, and then nothing changes. One above
+ * TWIN_LONGEST_READ is not touched, so it need not be there */
 static void overlaps(void) {
     enum { MARGIN = 200, RECORD = 200, AREA = MARGIN + TWIN_ROOM + MARGIN };
-    static const size_t lengths[] = {1, 2, 6, 191, 192};
+    static const size_t lengths[] = {1, 2, 6, 191, 192, 193, 255, 256, 300, 511, 512, 513, 65535, 65536, UINT32_MAX, SIZE_MAX - 200, SIZE_MAX};
     static uint64_t area[AREA / 8];
     uint8_t *base = (uint8_t *)area;
     struct twin *twin = (struct twin *)(void *)(base + RECORD);
     memset(area, FILL, sizeof area);
     HOLDS(twin_power_up(twin) == TWIN_DONE && twin_write(twin, 0x3E, 0x40) == TWIN_DONE);
     for (size_t n = 0; n < sizeof lengths / sizeof *lengths; n++)
-        for (size_t at = 0; at + lengths[n] <= AREA; at++) {
+        for (size_t at = 0; lengths[n] > TWIN_LONGEST_READ ? at < AREA : at + lengths[n] <= AREA; at++) {
             static uint64_t before[AREA / 8];
-            bool overlap = at < RECORD + TWIN_ROOM && at + lengths[n] > RECORD;
+            bool overlap = at < RECORD ? lengths[n] > RECORD - at : at < RECORD + TWIN_ROOM;
+            enum twin_answer answer = lengths[n] > TWIN_LONGEST_READ ? TWIN_BAD_LENGTH : TWIN_DONE;
             memcpy(before, area, sizeof before);
-            HOLDS(twin_read(twin, 0x3F, base + at, lengths[n]) == (overlap ? TWIN_BAD_BUFFER : TWIN_DONE));
+            HOLDS(twin_read(twin, 0x3F, base + at, lengths[n]) == (overlap ? TWIN_BAD_BUFFER : answer));
             HOLDS(twin_event(twin, TWIN_CLOCK, 0, 0, 0, 0, 0, base + at, lengths[n], 1) == (overlap ? TWIN_BAD_BUFFER : TWIN_DONE));
-            if (overlap) HOLDS(memcmp(before, area, sizeof before) == 0);
+            if (overlap || answer != TWIN_DONE) HOLDS(memcmp(before, area, sizeof before) == 0);
             else HOLDS(all(base + at, lengths[n], 0));
         }
-    HOLDS(twin_read(twin, 0x3F, base + RECORD, 0) == TWIN_BAD_LENGTH && twin_read(twin, 0x3F, base, 193) == TWIN_BAD_LENGTH);
-    HOLDS(twin_read(twin, 0x3F, base + RECORD + 8, 193) == TWIN_BAD_LENGTH && twin_read(twin, 0x3F, base, SIZE_MAX) == TWIN_BAD_LENGTH);
+    for (size_t at = 0; at < AREA; at++) HOLDS(twin_read(twin, 0x3F, base + at, 0) == TWIN_BAD_LENGTH);
+}
+
+/* whether a buffer and a record, each of some bytes, share one: both by their first and last bytes; none lies behind the last address */
+static bool shares(uintptr_t record, uintptr_t start, size_t length) {
+    uintptr_t last = length - 1 > UINTPTR_MAX - start ? UINTPTR_MAX : start + (length - 1);
+    return length != 0 && start <= record + (TWIN_ROOM - 1) && record <= last;
+}
+
+/* places at both ends of the address space, in the middle and around the record, none of which is touched, with lengths of the whole range */
+static void far_places(void) {
+    const uintptr_t middle = UINTPTR_MAX / 2 + 1, end = UINTPTR_MAX - (TWIN_ROOM - 1);
+    const uintptr_t records[] = {8, 512, 1024, 65536, middle - 256, middle, end - 512, end - 8, end};
+    const uintptr_t steps[] = {0, 1, 2, 7, 8, 191, 192, 193, 255, 256, 511, 512, 513, 65535, 65536, 65537, UINT32_MAX, UINTPTR_MAX / 2};
+    const size_t many = sizeof steps / sizeof *steps;
+    for (size_t r = 0; r < sizeof records / sizeof *records; r++)
+        for (size_t s = 0; s < 4 * many; s++)
+            for (size_t n = 0; n < 2 * many; n++) {
+                uintptr_t from = s % 4 == 0 ? 0 : s % 4 == 1 ? UINTPTR_MAX : records[r], step = steps[s / 4];
+                uintptr_t start = s % 2 == 0 ? from + step : from - step;
+                size_t length = n % 2 == 0 ? steps[n / 2] : SIZE_MAX - steps[n / 2];
+                const struct twin *twin = (const struct twin *)records[r];
+                if (start == 0) continue; /* that is NULL */
+                HOLDS(twin_is_bad_buffer(twin, (const uint8_t *)start, length) == shares(records[r], start, length));
+            }
 }
 
 /* NULL is a buffer of no bytes and of no more */
@@ -304,6 +329,7 @@ int main(void) {
     power_up();
     copies();
     overlaps();
+    far_places();
     at_the_edge(page, buffers);
     printf("%ld %ld\n", checks, failed);
     return failed != 0;
