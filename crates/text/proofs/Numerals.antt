@@ -1,17 +1,18 @@
 -- The numerals mean what they say: a reader of decimal digits gets the number back, and one of capital hex the bytes.
--- A number's numeral has nothing but digits, and a zero in front for 0 alone.
+-- A number's numeral has nothing but digits, and a zero in front for 0 alone; bytes in hex are digits and capital letters and nothing else.
 -- Assumes nothing.
-use Prim.Native.Nat.{ℕ, _+_, _-_, _*_, _/_, _%_, _^_, _≤_, _<_}
+use Prim.Native.Nat.{ℕ, zero, suc, _+_, _-_, _*_, _/_, _%_, _^_, _≤_, _<_}
 use mathlib.Core.Bool.{Bool, true, false}
 use mathlib.Core.List.{List, [], _∷_, _++_, List·Memᴰ, List·Memᴰ·append-cases, List·Memᴰ·eq-of-singleton, List·Memᴰ·not-nil}
-use mathlib.Core.Logic.{⊎-elim}
+use mathlib.Core.Logic.{_⊎_, inl, inr, ⊎-elim}
 use mathlib.Core.Path.{_≡_, refl, _∙_}
 use native.Mathlib.Omega.{arith}
 use native.Mathlib.Nat.{pow-suc}
-use lib.ListN.{getD}
+use lib.ListN.{length, getD}
 use lib.Dec.{ltb}
 use borrow.Author.Tests.{ltb-true, ltb-false, lt-ltb, le-ltb}
 use Rattle.laws.specs.Choice.{pick}
+use Rattle.benchlog.specs.Whole.{Bytes}
 use Rattle.text.specs.Text.{digit, hexDigit, lastDigits, mostDigits, decimal, hex, value, valueOn, hexValue, unhex}
 use Rattle.text.proofs.Texts.{by-digits}
 
@@ -69,3 +70,21 @@ unhex-hex [] = refl
 unhex-hex (b ∷ bs) =
     let whole : b / 16 * 16 + b % 16 ≡ b = omega arith in
     rw (hex-value (b / 16), hex-value (b % 16), whole, unhex-hex bs)
+
+-- "capital hex": the characters 0 to 9 and A to F
+abbrev pub CapitalHex : ℕ → Type 0
+CapitalHex c = ((48 ≤ c) × (c ≤ 57)) ⊎ ((65 ≤ c) × (c ≤ 70))
+
+capital-digit : (d : ℕ) → d < 16 → CapitalHex (hexDigit d)
+capital-digit d small = go (ltb d 10) refl
+  where
+    go : (t : Bool) → ltb d 10 ≡ t → CapitalHex (pick t (digit d) (55 + d))
+    go true e = let h = ltb-true d 10 e in inl (omega arith, omega arith)
+    go false e = let h = ltb-false d 10 e in inr (omega arith, omega arith)
+
+-- every character of bytes in hex is one of these, two for each byte
+pub capital-hex : (bs : List ℕ) → Bytes bs → (i : ℕ) → i < length (hex bs) → CapitalHex (getD (hex bs) i 0)
+capital-hex [] are i h = absurd (omega arith)
+capital-hex (b ∷ bs) are zero h = capital-digit (b / 16) (omega (arith, are 0))
+capital-hex (b ∷ bs) are (suc zero) h = capital-digit (b % 16) (omega arith)
+capital-hex (b ∷ bs) are (suc (suc i)) h = capital-hex bs (λ j. are (suc j)) i (omega arith)
