@@ -14,6 +14,7 @@ use Rattle.benchlog.specs.declared.Found.the-variants as found
 use Rattle.benchlog.specs.declared.Read.{Read}
 use Rattle.benchlog.proofs.Local.{head-local}
 use Rattle.entries.specs.Entries.{eventOf}
+use Rattle.events.specs.Event as event
 use Rattle.events.specs.Event.{Event}
 use Rattle.replayed.specs.Events.{signedOf, fourOf, IsRecordOf, Fields}
 
@@ -29,15 +30,30 @@ is-record e r bytes known reads is = record {
   event-is = is;
 }
 
-pub fields : Fields
+-- ---- each kind
+write-fields : (address byte : ℕ) → IsRecordOf (event.write address byte) (0 ∷ 3 ∷ 1 ∷ address ∷ byte ∷ [])
 unfolding decided readHead foundIn entryOf lengthOfKind eventOf
-fields = record {
-  write = λ address byte. is-record _ (entry.Write (record { address = address; byte = byte })) _ refl (λ place. refl) refl;
-  read = λ address count. is-record _ (entry.Read (record { address = address; count = count })) _ refl (λ place. refl) refl;
-  sample = λ x₁ x₀ y₁ y₀ z₁ z₀ t.
-      is-record _ (entry.Sample (record { x = signedOf x₁ x₀; y = signedOf y₁ y₀; z = signedOf z₁ z₀; temperature = t })) _ refl (λ place. refl) refl;
-  cycle = is-record _ (entry.CycleStart (record {})) _ refl (λ place. refl) refl;
-  clock = λ a b c d.
-      let four : (a * 256 + b) * 65536 + (c * 256 + d) ≡ fourOf a b c d = omega arith in
-      is-record _ (entry.Clock (record { microseconds = fourOf a b c d })) _ refl (λ place. ap (λ (us : ℕ). found-of (entry.Clock (record { microseconds = us })) (place + 7)) four) refl;
-}
+write-fields address byte = is-record _ (entry.Write (record { address = address; byte = byte })) _ refl (λ place. refl) refl
+
+read-fields : (address count : ℕ) → IsRecordOf (event.read address count) (0 ∷ 3 ∷ 2 ∷ address ∷ count ∷ [])
+unfolding decided readHead foundIn entryOf lengthOfKind eventOf
+read-fields address count = is-record _ (entry.Read (record { address = address; count = count })) _ refl (λ place. refl) refl
+
+sample-fields : (x₁ x₀ y₁ y₀ z₁ z₀ t : ℕ)
+    → IsRecordOf (event.sample (signedOf x₁ x₀) (signedOf y₁ y₀) (signedOf z₁ z₀) t) (0 ∷ 8 ∷ 3 ∷ x₁ ∷ x₀ ∷ y₁ ∷ y₀ ∷ z₁ ∷ z₀ ∷ t ∷ [])
+unfolding decided readHead foundIn entryOf lengthOfKind eventOf
+sample-fields x₁ x₀ y₁ y₀ z₁ z₀ t =
+    is-record _ (entry.Sample (record { x = signedOf x₁ x₀; y = signedOf y₁ y₀; z = signedOf z₁ z₀; temperature = t })) _ refl (λ place. refl) refl
+
+cycle-fields : IsRecordOf event.cycle (0 ∷ 1 ∷ 4 ∷ [])
+unfolding decided readHead foundIn entryOf lengthOfKind eventOf
+cycle-fields = is-record _ (entry.CycleStart (record {})) _ refl (λ place. refl) refl
+
+clock-fields : (a b c d : ℕ) → IsRecordOf (event.clock (fourOf a b c d)) (0 ∷ 5 ∷ 5 ∷ a ∷ b ∷ c ∷ d ∷ [])
+unfolding decided readHead foundIn entryOf lengthOfKind eventOf
+clock-fields a b c d =
+    let four : (a * 256 + b) * 65536 + (c * 256 + d) ≡ fourOf a b c d = omega arith in
+    is-record _ (entry.Clock (record { microseconds = fourOf a b c d })) _ refl (λ place. ap (λ (us : ℕ). found-of (entry.Clock (record { microseconds = us })) (place + 7)) four) refl
+
+pub fields : Fields
+fields = record { write = write-fields; read = read-fields; sample = sample-fields; cycle = cycle-fields; clock = clock-fields }
