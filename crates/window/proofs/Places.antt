@@ -1,16 +1,19 @@
 -- The buffer's bytes between the two places of its window.
 -- Assumes nothing.
 use Prim.Native.Nat.{ℕ, zero, suc, _+_, _-_, _≤_, _<_, min}
+use mathlib.Core.Bool.{Bool, true, false}
 use mathlib.Core.List.{List, [], _∷_, _++_}
 use mathlib.Core.Path.{_≡_, refl, sym, ap, _∙_}
 use native.Mathlib.Omega.{arith}
 use lib.ListN.{length, take, drop, length-append, length-take, length-drop}
 use lib.Seq.{take-add, take-at, drop-at, drop-nil, drop-drop, length-take-le, take-append-le, take-append-add}
+use Rattle.laws.specs.Choice.{pick}
+use Rattle.window.specs.declared.given.Got.{Got}
 use Rattle.laws.specs.Bytes.{between, movedForward}
 use Rattle.laws.proofs.Bytes.{length-between}
 use borrow.Rule.Slice.PartMut.{putMid, postOf}
 use Rattle.window.specs.declared.Window.{Window}
-use Rattle.window.specs.Window.{Within, unused, past, atFront, HasRoom, withRead, Refilled}
+use Rattle.window.specs.Window.{Within, unused, past, atFront, HasRoom, withRead, moreOf, Refilled, RefilledAs}
 
 -- the part that is lent
 pub unused-part : (w : Window) (buffer : List ℕ) → Within w (length buffer) → take (w .to - w .from) (drop (w .from) buffer) ≡ unused w buffer
@@ -90,3 +93,14 @@ module _ (w : Window) (buffer : List ℕ) {f : Window} {moved : List ℕ} (windo
         },
         (omega arith, omega arith),
       )
+
+-- what reading more comes to, by what the read gave
+pub refilled-as : (got : Got) (w : Window) (buffer : List ℕ) (f : Window) (buffer′ : List ℕ) → f ≡ atFront w buffer
+    → (got .failed ≡ false → HasRoom w buffer × Refilled w buffer (withRead f (got .count)) buffer′ × Within (withRead f (got .count)) (length buffer))
+    → RefilledAs (moreOf f got .failed) w buffer (moreOf f got .window) buffer′
+refilled-as got w buffer f buffer′ front some = go (got .failed) some
+  where
+    go : (b : Bool) → (b ≡ false → HasRoom w buffer × Refilled w buffer (withRead f (got .count)) buffer′ × Within (withRead f (got .count)) (length buffer))
+        → RefilledAs (pick b true false) w buffer (pick b f (withRead f (got .count))) buffer′
+    go true some = front
+    go false some = some refl

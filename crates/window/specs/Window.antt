@@ -6,7 +6,10 @@ use mathlib.Core.List.{List, _++_}
 use lib.ListN.{length}
 use lib.Dec.{eqb}
 use Rattle.laws.specs.Bytes.{between}
+use Rattle.laws.specs.Choice.{pick}
+use Rattle.window.specs.declared.given.Got.{Got}
 use Rattle.window.specs.declared.Window.{Window}
+use Rattle.window.specs.declared.More.{More}
 
 -- before the first read
 abbrev pub start : Window
@@ -37,9 +40,9 @@ abbrev pub withRead : Window → ℕ → Window
 withRead w n = record { from = w .from; to = w .to + n; last = eqb n 0 }
 
 -- ---- the call
--- a read into so much room: where it did not fail there was some
-abbrev pub ReadInto : ℕ → Bool → ℕ → Type 0
-ReadInto room failed n = (n ≤ room) × (failed ≡ false → 1 ≤ room)
+-- what is made of what a read gave
+abbrev pub moreOf : Window → Got → More
+moreOf w got = record { failed = pick (got .failed) true false; window = pick (got .failed) w (withRead w (got .count)) }
 
 -- a read gave part: it stands behind what was not used
 pub record Refilled (w : Window) (buffer : List ℕ) (w′ : Window) (buffer′ : List ℕ) : Type 0 where

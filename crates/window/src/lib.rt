@@ -1,5 +1,7 @@
 // The window of a lent buffer: of the input's bytes, those that came and are not used. No contract can say what a read gives: this says
 // into what it is handed, and what is made of what it gives.
+mod given;
+
 ghost use mathlib.Core.Bool.{false};
 ghost use mathlib.Core.Path.{_≡_};
 ghost use Prim.Native.Nat.{_+_, _≤_};
@@ -7,7 +9,9 @@ ghost use lib.ListN.{length};
 ghost use mir.Syntax.{w64};
 ghost use mir.Val.{Fits};
 ghost use Rattle.laws.specs.Bytes.{movedForward};
-ghost use Rattle.window.specs.Window.{start, past, atFront, withRead, ReadInto, RefilledAs};
+ghost use Rattle.window.specs.Window.{start, past, atFront, withRead, moreOf, RefilledAs};
+use given::Got;
+use given::read_into;
 use laws::least;
 use laws::move_forward;
 
@@ -22,12 +26,6 @@ pub struct Window {
 pub struct More {
     pub failed: bool,
     pub window: Window,
-}
-
-// What a read gave: that it failed, or how many bytes.
-struct Got {
-    failed: bool,
-    count: usize,
 }
 
 impl Window {
@@ -67,11 +65,12 @@ fn move_to_front(window: Window, buffer: &mut [u8]) -> Window
     }
 }
 
-// The window behind a read of so many bytes: of none, where the input has ended.
-fn after_read(window: Window, n: usize) -> Window
-    requires { ⌜ Fits w64 (window .to + n) ⌝ }
-    ensures { λ r. ⌜ r ≡ withRead window n ⌝ }
+// The window behind a read that did not fail: of no bytes, where the input has ended.
+fn after_read(window: Window, got: Got) -> Window
+    requires { ⌜ Fits w64 (window .to + got .count) ⌝ }
+    ensures { λ r. ⌜ r ≡ withRead window (got .count) ⌝ }
 {
+    let n = got.count();
     Window {
         from: window.from,
         to: window.to + n,
@@ -79,20 +78,20 @@ fn after_read(window: Window, n: usize) -> Window
     }
 }
 
-// A read into some room: where there is none, it would give nothing and look like the end of the input, so it fails.
-fn read_into(input: i32, room: &mut [u8]) -> Got
-    ensures { λ r. ⌜ ReadInto (length (now (room .entry))) (r .failed) (r .count) ⌝ }
+// What reading more came to, by what the read gave.
+fn more_of(window: Window, got: Got) -> More
+    requires { ⌜ Fits w64 (window .to + got .count) ⌝ }
+    ensures { λ r. ⌜ r ≡ moreOf window got ⌝ }
 {
-    if room.len() == 0 {
-        return Got {
+    if got.failed() {
+        return More {
             failed: true,
-            count: 0,
+            window,
         };
     }
-    let got = libc::read(input, &mut *room);
-    Got {
-        failed: got < 0,
-        count: io::count(got, room),
+    More {
+        failed: false,
+        window: after_read(window, got),
     }
 }
 
@@ -103,14 +102,5 @@ pub fn refill(input: i32, window: Window, buffer: &mut [u8]) -> More
     let front = move_to_front(window, &mut *buffer);
     let to = front.to;
     let got = read_into(input, &mut buffer[to..]);
-    if got.failed {
-        return More {
-            failed: true,
-            window: front,
-        };
-    }
-    More {
-        failed: false,
-        window: after_read(front, got.count),
-    }
+    more_of(front, got)
 }

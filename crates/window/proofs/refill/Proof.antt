@@ -3,7 +3,7 @@ use native.Mathlib.Omega.{arith}
 use borrow.Author.Needs.{needs}
 use denote.Ref.{now}
 use lib.ListN.{length, length-take, length-drop}
-use Rattle.window.proofs.Places.{ends-within, has-room, refilled}
+use Rattle.window.proofs.Places.{ends-within, has-room, refilled, refilled-as}
 use Rattle.window.proofs.refill.Statement.{statement}
 use Rattle.window.proofs.refill.Tie as tie
 
@@ -14,16 +14,15 @@ behind c =
     ends-within (start .args .window) (now (start .args .buffer)) (c .move-to-front .ensures .0) (c .move-to-front .ensures .1)
 
 returns : tie.Need-returns
-returns c = c .before .before .before .before .before .before .before .move-to-front .ensures .0
-
-returns-2 : tie.Need-returns-2
-returns-2 c =
-    let read = c .before .before .before .before .read-into in
-    let moved = c .before .before .before .before .before .before .before .before .move-to-front in
-    let start = c .before .before .before .before .before .before .before .before .before .before .before in
-    let some = simp (length-take, length-drop) at (read .ensures .1 (c .before .if1 .left)) in
+returns c =
+    let read = c .before .before .before .read-into in
+    let moved = c .before .before .before .before .before .before .before .move-to-front in
+    let start = c .before .before .before .before .before .before .before .before .before .before in
+    let more = refilled-as (read .result) (start .args .window) (now (start .args .buffer)) (moved .result) _ (moved .ensures .0) (λ e.
+    let some = simp (length-take, length-drop) at (read .ensures .1 e) in
     let r = refilled (start .args .window) (now (start .args .buffer)) (moved .ensures .0) (moved .ensures .1) (read .last .1 .0) (read .result .count) (read .kept .1 .0) (omega (arith, read .ensures .0, read .kept .1 .0)) in
-    rw (c .after-read .ensures) (has-room (start .args .window) (now (start .args .buffer)) (moved .ensures .0) (moved .ensures .1) (omega (arith, some)), r .0, r .1)
+    (has-room (start .args .window) (now (start .args .buffer)) (moved .ensures .0) (moved .ensures .1) (omega (arith, some)), r .0, r .1)) in
+    rw (c .more-of .ensures) more
 
 pub refill-spec : {M : Type 1} → statement M
 refill-spec =
@@ -34,8 +33,6 @@ refill-spec =
     (λ c. omega (arith, behind (c .before .before)))
     (λ c. search needs)
     (λ c κs. tt)
-    (λ c. search needs)
-    returns
     (λ c κs. search needs)
     (λ c. search needs)
-    returns-2)
+    returns)
