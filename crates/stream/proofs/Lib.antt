@@ -1,3 +1,4 @@
 pub mod Turns
-pub mod Parts
+pub mod Blocks
+pub mod Ends
 pub mod OneOutcome

@@ -1,12 +1,13 @@
 -- A turn: what its run used, what it left, and what follows it.
 -- Assumes nothing.
 use Prim.Native.Nat.{ℕ, _+_, _<_}
-use mathlib.Core.Bool.{true, false}
+use mathlib.Core.Bool.{Bool, true, false}
 use mathlib.Core.List.{List}
 use mathlib.Core.Path.{_≡_, refl, sym, ap, subst, _∙_}
 use native.Mathlib.Omega.{arith}
 use lib.ListN.{length, take}
-use lib.Seq.{length-take-le}
+use lib.Seq.{length-take-le, take-at}
+use Rattle.benchlog.specs.Writer.{placed}
 use Rattle.text.proofs.Texts.{pushed-length}
 use Rattle.benchlog.specs.Format.{lengthField, longestBody}
 use Rattle.benchlog.proofs.Local.{few-undecided}
@@ -22,7 +23,7 @@ use Rattle.window.proofs.Places.{unused-few, unused-past, past-within}
 use Rattle.stream.specs.declared.State.{State}
 use Rattle.stream.specs.declared.How.{How}
 use Rattle.stream.specs.declared.How.the-variants.{On, Stopped, NotRead, NotWritten}
-use Rattle.stream.specs.Pump.{ranOver, afterRun, ranTo, seeing, isOn, isWait, howAfter, ReadMore, Went, emptied, refilled, ReadAs, TurnedAs}
+use Rattle.stream.specs.Pump.{ranOver, afterRun, ranTo, seeing, isOn, isWait, howAfter, ReadMore, Went, emptied, refilled, ReadAs, BehindRun, BehindWrite, TurnedAs}
 
 pub is-waiting : (n : Next) → isWait n ≡ true → n ≡ Wait
 is-waiting Go e = let z : _≡_ {A = ℕ} 0 1 = cc in absurd (omega arith)
@@ -48,6 +49,11 @@ module _ (s : State) (buffer : List ℕ) (room : ℕ) {ran : Ran} {out out′ : 
   pub text-there : ran .to ≡ length (take (ran .to) out′)
   text-there = sym (length-take-le (ran .to) out′ (omega (arith, is .text-is .place, is .text-is .room, pushed-length (is .text-is))))
 
+  -- and is all that is handed to the write
+  pub text-handed : take (ran .to) out′ ≡ ranOver s buffer room .text
+  unfolding placed
+  text-handed = let long : length (ranOver s buffer room .text) ≡ ran .to = omega (arith, is .text-is .place) in rw (is .text-is .bytes) (take-at (ranOver s buffer room .text) _ (ran .to) long)
+
   -- where it waits, less than a record is left
   pub little-left : ran .next ≡ Wait → length (unused (next .window) buffer) < lengthField + longestBody
   little-left e = rw (unused-past (s .window) (ran .used) buffer, is .used-is) (few-undecided _ (waits worker works (s .job) (unused (s .window) buffer) (s .window .last) room (sym (is .next-is) ∙ e) .1))
@@ -59,7 +65,7 @@ module _ (s : State) (buffer : List ℕ) (room : ℕ) {ran : Ran} {out out′ : 
       go Go e f = absurd (never-go worker works (s .job) (unused (s .window) buffer) (s .window .last) room (sym (is .next-is) ∙ e))
       go Wait e f = let z : _≡_ {A = ℕ} 0 1 = cc in absurd (omega arith)
       go Full e f = (emptied (sym (is .next-is) ∙ e) next-is refl, next-within)
-      go Stop e f = (sym (is .next-is) ∙ e, sym (is .refusal-is))
+      go Stop e f = (sym (is .next-is) ∙ e, sym (is .refusal-is), next-is)
 
   pub turned-by-read : (how : How) (s′ : State) (buffer′ : List ℕ) → isWait (ran .next) ≡ true → HasRoom (next .window) buffer → ReadAs how next buffer s′ buffer′ → TurnedAs how s buffer room s′ buffer′
   turned-by-read how s′ buffer′ w room-left = go how (sym (is .next-is) ∙ is-waiting (ran .next) w)
@@ -69,6 +75,15 @@ module _ (s : State) (buffer : List ℕ) (room : ℕ) {ran : Ran} {out out′ : 
       go (Stopped refusal) e r = absurd r
       go NotRead e r = (e, r ∙ ap (λ (t : State). seeing t (atFront (t .window) buffer)) next-is, subst (λ (t : State). HasRoom (t .window) buffer) next-is room-left)
       go NotWritten e r = absurd r
+
+  -- by whether the text is written
+  pub turned : (whole : Bool) (how : How) (s′ : State) (buffer′ : List ℕ) → 65536 ≡ length buffer → BehindWrite whole s ran buffer how s′ buffer′ → TurnedAs how s buffer room s′ buffer′
+  turned false how s′ buffer′ size t = rw (t .0) (t .1)
+  turned true how s′ buffer′ size t = by-wait (isWait (ran .next)) refl t
+    where
+      by-wait : (w : Bool) → isWait (ran .next) ≡ w → BehindRun w s ran buffer how s′ buffer′ → TurnedAs how s buffer room s′ buffer′
+      by-wait true e t = let l = little-left (is-waiting (ran .next) e) in turned-by-read how s′ buffer′ e (omega (arith, l, size)) t
+      by-wait false e t = rw (t .0, t .1, t .2) (turned-on e)
 
 -- where the pump goes on, the job is of the kind that it was
 pub on-kept : (how : How) (s : State) (buffer : List ℕ) (room : ℕ) (s′ : State) (buffer′ : List ℕ) → isOn how ≡ true → TurnedAs how s buffer room s′ buffer′ → s′ .job .answers ≡ s .job .answers
@@ -80,6 +95,12 @@ on-kept On s buffer room s′ buffer′ e t = went (t .0)
 on-kept (Stopped refusal) s buffer room s′ buffer′ e t = let z : _≡_ {A = ℕ} 0 1 = cc in absurd (omega arith)
 on-kept NotRead s buffer room s′ buffer′ e t = let z : _≡_ {A = ℕ} 0 1 = cc in absurd (omega arith)
 on-kept NotWritten s buffer room s′ buffer′ e t = let z : _≡_ {A = ℕ} 0 1 = cc in absurd (omega arith)
+
+pub on-went : (how : How) (s : State) (buffer : List ℕ) (room : ℕ) (s′ : State) (buffer′ : List ℕ) → isOn how ≡ true → TurnedAs how s buffer room s′ buffer′ → Went s buffer room s′ buffer′
+on-went On s buffer room s′ buffer′ e t = t .0
+on-went (Stopped refusal) s buffer room s′ buffer′ e t = let z : _≡_ {A = ℕ} 0 1 = cc in absurd (omega arith)
+on-went NotRead s buffer room s′ buffer′ e t = let z : _≡_ {A = ℕ} 0 1 = cc in absurd (omega arith)
+on-went NotWritten s buffer room s′ buffer′ e t = let z : _≡_ {A = ℕ} 0 1 = cc in absurd (omega arith)
 
 -- and the places are within the buffer
 pub on-within : (how : How) (s : State) (buffer : List ℕ) (room : ℕ) (s′ : State) (buffer′ : List ℕ) → isOn how ≡ true → TurnedAs how s buffer room s′ buffer′ → Within (s′ .window) (length buffer)

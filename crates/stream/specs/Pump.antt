@@ -1,5 +1,5 @@
 -- How a log goes from its input through a job to its output: what the pump does around its two calls, read and write.
-use Prim.Native.Nat.{ℕ, _≤_}
+use Prim.Native.Nat.{ℕ, suc, _≤_}
 use mathlib.Core.Path.{_≡_}
 use mathlib.Core.Bool.{Bool, true, false}
 use mathlib.Core.List.{List, [], _∷_, _++_}
@@ -7,10 +7,12 @@ use lib.ListN.{length}
 use lib.Dec.{eqb}
 use Rattle.laws.specs.Choice.{pick}
 use Rattle.follow.specs.Follow.{Turn, runOf}
+use Rattle.follow.specs.Whole.{joined}
 use Rattle.follow.specs.declared.Next.{Next}
 use Rattle.follow.specs.declared.Next.the-variants.{Go, Wait, Full, Stop}
 use Rattle.jobs.specs.Job.{worker, recordsIn}
 use Rattle.jobs.specs.declared.Job.{Job}
+use Rattle.jobs.specs.declared.Ran.{Ran}
 use Rattle.window.specs.Window.{start, Within, unused, past, atFront, HasRoom, Refilled}
 use Rattle.window.specs.declared.Window.{Window}
 use Rattle.stream.specs.declared.State.{State}
@@ -76,11 +78,21 @@ ReadAs (Stopped refusal) s buffer s′ buffer′ = ⊥
 ReadAs NotRead s buffer s′ buffer′ = s′ ≡ seeing s (atFront (s .window) buffer)
 ReadAs NotWritten s buffer s′ buffer′ = ⊥
 
+-- behind a run whose text is written, by whether it waits
+abbrev pub BehindRun : Bool → State → Ran → List ℕ → How → State → List ℕ → Type 0
+BehindRun true s ran buffer how s′ buffer′ = ReadAs how (afterRun s (ran .job) (ran .used)) buffer s′ buffer′
+BehindRun false s ran buffer how s′ buffer′ = (how ≡ howAfter (ran .next) (ran .refusal)) × (s′ ≡ afterRun s (ran .job) (ran .used)) × (buffer′ ≡ buffer)
+
+-- behind a run, by whether its text is written
+abbrev pub BehindWrite : Bool → State → Ran → List ℕ → How → State → List ℕ → Type 0
+BehindWrite true s ran buffer how s′ buffer′ = BehindRun (isWait (ran .next)) s ran buffer how s′ buffer′
+BehindWrite false s ran buffer how s′ buffer′ = (how ≡ NotWritten) × (s′ ≡ s) × (buffer′ ≡ buffer)
+
 -- a turn, over a buffer and room for so much text: it stops exactly where its run does, unless a call fails. Where nothing is read,
 -- there was room to read into; where the text is not written, the state is the one before it
 abbrev pub TurnedAs : How → State → List ℕ → ℕ → State → List ℕ → Type 0
 TurnedAs On s buffer room s′ buffer′ = Went s buffer room s′ buffer′ × Within (s′ .window) (length buffer)
-TurnedAs (Stopped refusal) s buffer room s′ buffer′ = (ranOver s buffer room .next ≡ Stop) × (ranOver s buffer room .refusal ≡ refusal)
+TurnedAs (Stopped refusal) s buffer room s′ buffer′ = (ranOver s buffer room .next ≡ Stop) × (ranOver s buffer room .refusal ≡ refusal) × (s′ ≡ ranTo s buffer room)
 TurnedAs NotRead s buffer room s′ buffer′ = (ranOver s buffer room .next ≡ Wait) × (s′ ≡ seeing (ranTo s buffer room) (atFront (ranTo s buffer room .window) buffer)) × HasRoom (ranTo s buffer room .window) buffer
 TurnedAs NotWritten s buffer room s′ buffer′ = s′ ≡ s
 
@@ -92,27 +104,78 @@ statusOf NotRead = 1
 statusOf NotWritten = 1
 
 -- ---- turns in a row
--- what the reads give: one part after the other, of which none is empty, and then nothing
-abbrev pub NoneEmpty : List (List ℕ) → Type 0
-NoneEmpty [] = Unit {0}
-NoneEmpty (part ∷ parts) = (1 ≤ length part) × NoneEmpty parts
+-- what a read gave, where it gave some: nothing is the end of the input
+abbrev pub someOf : List ℕ → List (List ℕ)
+someOf [] = []
+someOf (byte ∷ bytes) = (byte ∷ bytes) ∷ []
 
-abbrev pub nextPart : List (List ℕ) → List ℕ
-nextPart [] = []
-nextPart (part ∷ parts) = part
+abbrev pub partIn : {s s′ : State} {buffer buffer′ : List ℕ} {room : ℕ} → Went s buffer room s′ buffer′ → List (List ℕ)
+partIn (emptied full is same) = []
+partIn (refilled waits r) = someOf (r .1 .part)
 
-abbrev pub laterParts : List (List ℕ) → List (List ℕ)
-laterParts [] = []
-laterParts (part ∷ parts) = parts
+-- so many turns behind which the pump goes on, from its beginning: the parts that the reads gave, of which none is empty; the blocks that
+-- the writes were handed, one in each turn, the text of its run; and the state and the buffer behind them
+pub data TurnsDone (job : Job) : ℕ → List (List ℕ) → List (List ℕ) → State → List ℕ → Type 0 where
+  none : (buffer : List ℕ) → TurnsDone job 0 [] [] (pumpStart job) buffer
+  again : {n : ℕ} {parts blocks : List (List ℕ)} {s s′ : State} {buffer buffer′ : List ℕ} (room : ℕ) → TurnsDone job n parts blocks s buffer
+      → (went : Went s buffer room s′ buffer′)
+      → TurnsDone job (suc n) (parts ++ partIn went) (blocks ++ (ranOver s buffer room .text ∷ [])) s′ buffer′
 
--- turns from a state on, up to where the log stops: the buffer, the parts that have not been read, and the text that is written
-pub data Turns : State → List ℕ → List (List ℕ) → List ℕ → Type 0 where
-  stopped : {s : State} {buffer : List ℕ} {parts : List (List ℕ)} (room : ℕ) → ranOver s buffer room .next ≡ Stop
-      → Turns s buffer parts (ranOver s buffer room .text)
-  emptied : {s : State} {buffer : List ℕ} {parts : List (List ℕ)} {text : List ℕ} (room : ℕ) → ranOver s buffer room .next ≡ Full
-      → Turns (ranTo s buffer room) buffer parts text
-      → Turns s buffer parts (ranOver s buffer room .text ++ text)
-  refilled : {s s′ : State} {buffer buffer′ : List ℕ} {parts : List (List ℕ)} {text : List ℕ} (room : ℕ) → ranOver s buffer room .next ≡ Wait
-      → (r : ReadMore (ranTo s buffer room) buffer s′ buffer′) → r .1 .part ≡ nextPart parts
-      → Turns s′ buffer′ (laterParts parts) text
-      → Turns s buffer parts (ranOver s buffer room .text ++ text)
+-- what may stand behind the parts that came: nothing, where the end of the input was seen
+abbrev pub MayFollow : State → List ℕ → Type 0
+MayFollow s rest = s .window .last ≡ true → rest ≡ []
+
+-- ---- the end of a pump, by the job that it began with; printed is what that job prints of a log
+-- the last turn, behind the others
+pub record LastTurn (job : Job) (how : How) (whole : ℕ) : Type 0 where
+  pub turns : ℕ
+  pub parts : List (List ℕ)
+  pub blocks : List (List ℕ)
+  pub state : State
+  pub held : List ℕ
+  pub room : ℕ
+  pub state′ : State
+  pub held′ : List ℕ
+  pub done : TurnsDone job turns parts blocks state held
+  pub turned : TurnedAs how state held room state′ held′
+  pub whole-is : whole ≡ state′ .whole
+
+-- with the block that it hands to the write
+abbrev pub allBlocks : {job : Job} {how : How} {whole : ℕ} → LastTurn job how whole → List (List ℕ)
+allBlocks l = l .blocks ++ (ranOver (l .state) (l .held) (l .room) .text ∷ [])
+
+-- those that were written whole: all, unless the last write failed
+abbrev pub wholeBlocks : (how : How) {job : Job} {whole : ℕ} → LastTurn job how whole → List (List ℕ)
+wholeBlocks On l = allBlocks l
+wholeBlocks (Stopped refusal) l = allBlocks l
+wholeBlocks NotRead l = allBlocks l
+wholeBlocks NotWritten l = l .blocks
+
+-- the log stopped: the blocks are, joined, what is printed of the parts, joined; and what may stand behind those changes nothing
+pub record StoppedLog (printed : List ℕ → List ℕ) (job : Job) (refusal whole : ℕ) : Type 0 where
+  pub last : LastTurn job (Stopped refusal) whole
+  pub text : (rest : List ℕ) → MayFollow (last .state) rest → joined (allBlocks last) ≡ printed (joined (last .parts) ++ rest)
+
+-- a call failed: the blocks that were written whole are, joined, the beginning of what is printed of the parts with what may stand behind
+pub record CallFailed (printed : List ℕ → List ℕ) (job : Job) (how : How) (whole : ℕ) : Type 0 where
+  pub last : LastTurn job how whole
+  pub text : (rest : List ℕ) → MayFollow (last .state) rest
+      → (later : List ℕ) × (printed (joined (last .parts) ++ rest) ≡ joined (wholeBlocks how last) ++ later)
+
+-- more came than so many turns can do
+abbrev pub mostTurns : ℕ
+mostTurns = 18446744073709551615
+
+pub record TooLong (job : Job) (whole : ℕ) : Type 0 where
+  pub parts : List (List ℕ)
+  pub blocks : List (List ℕ)
+  pub state : State
+  pub held : List ℕ
+  pub done : TurnsDone job mostTurns parts blocks state held
+  pub whole-is : whole ≡ state .whole
+
+abbrev pub PumpedAs : (List ℕ → List ℕ) → Job → How → ℕ → Type 0
+PumpedAs printed job On whole = TooLong job whole
+PumpedAs printed job (Stopped refusal) whole = StoppedLog printed job refusal whole
+PumpedAs printed job NotRead whole = CallFailed printed job NotRead whole
+PumpedAs printed job NotWritten whole = CallFailed printed job NotWritten whole

@@ -1,13 +1,20 @@
 // Pumps a log from one descriptor through a job, which follows it, to another. No contract can say what is read or written: of the two
 // calls this says what they are handed and what is made of what they give; every byte of the text is the job's.
+mod handed;
+
 ghost use mathlib.Core.Path.{_≡_};
 ghost use lib.ListN.{length};
 ghost use Rattle.follow.specs.Follow.{Running};
-ghost use Rattle.jobs.specs.Job.{worker};
+ghost use Rattle.follow.specs.Whole.{printedFrom};
+ghost use Rattle.playback.specs.Replay.{printed as Replay·printed};
+ghost use Rattle.answers.specs.Answer.{printed as Answer·printed};
+ghost use Rattle.jobs.specs.Job.{worker, toReplay, toAnswer};
 ghost use Rattle.window.specs.Window.{Within};
-ghost use Rattle.stream.specs.Pump.{pumpStart, ranOver, afterRun, isOn, isWait, howAfter, ReadAs, TurnedAs, statusOf};
+ghost use Rattle.stream.specs.Pump.{pumpStart, ranOver, afterRun, isOn, isWait, howAfter, ReadAs, BehindWrite, TurnedAs, PumpedAs, statusOf};
 use answers::Asked;
 use follow::Next;
+use handed::Delivered;
+use handed::write_run;
 use jobs::Job;
 use jobs::Ran;
 use jobs::run;
@@ -127,21 +134,17 @@ fn how_after(next: Next, refusal: u8) -> How
     }
 }
 
-// One run, its text, and where the run waits for more, a read.
-fn turn(
+// Behind a run and the write of its text: where the text is not written whole, the pump ends; and where the run waits for more, a read.
+fn after_write(
+    delivered: Delivered,
     input: i32,
-    output: i32,
-    answers: bool,
     state: State,
+    ran: Ran,
     buffer: &mut [u8],
-    text: &mut [u8],
 ) -> Turned
-    requires { ⌜ (answers ≡ state .job .answers) × Within (state .window) (length (now buffer)) × (65536 ≡ length (now buffer)) ⌝ }
-    ensures { λ r. ⌜ TurnedAs (r .how) state (now (buffer .entry)) (length (now (text .entry))) (r .state) (now (buffer .exit)) ⌝ }
+    ensures { λ r. ⌜ BehindWrite (delivered .whole) state ran (now (buffer .entry)) (r .how) (r .state) (now (buffer .exit)) ⌝ }
 {
-    let ran = run_over(answers, state, &*buffer, &mut *text);
-    let to = ran.to;
-    if !io::write_all(output, &text[..to]) {
+    if !delivered.is_whole() {
         return Turned {
             how: How::NotWritten,
             state,
@@ -158,6 +161,25 @@ fn turn(
     }
 }
 
+// One run, its text, and where the run waits for more, a read.
+fn turn(
+    input: i32,
+    output: i32,
+    answers: bool,
+    state: State,
+    buffer: &mut [u8],
+    text: &mut [u8],
+) -> Turned
+    requires { ⌜ (answers ≡ state .job .answers) × Within (state .window) (length (now buffer)) × (65536 ≡ length (now buffer)) ⌝ }
+    ensures { λ r. ⌜ TurnedAs (r .how) state (now (buffer .entry)) (length (now (text .entry))) (r .state) (now (buffer .exit)) ⌝ }
+{
+    let room = text.len();
+    let ran = run_over(answers, state, &*buffer, &mut *text);
+    let to = ran.to;
+    let delivered = write_run(output, state, &*buffer, room, &text[..to]);
+    after_write(delivered, input, state, ran, buffer)
+}
+
 fn goes_on(how: How) -> bool
     ensures { λ r. ⌜ r ≡ isOn how ⌝ }
 {
@@ -172,6 +194,7 @@ fn goes_on(how: How) -> bool
 // What a job prints of the log at one descriptor, written to another. answers says of which kind the job is (jobs::run says why).
 fn pump(input: i32, output: i32, answers: bool, job: Job) -> Ended
     requires { ⌜ answers ≡ job .answers ⌝ }
+    ensures { λ r. ⌜ PumpedAs (printedFrom worker job) job (r .how) (r .whole) ⌝ }
 {
     let mut buffer = io::large_buffer();
     let mut text = io::large_buffer();
@@ -196,12 +219,16 @@ fn pump(input: i32, output: i32, answers: bool, job: Job) -> Ended
 }
 
 // The replay of the log at one descriptor, written to another. pins says whether the pins stand behind every record's line.
-pub fn pump_replay(input: i32, output: i32, pins: bool) -> Ended {
+pub fn pump_replay(input: i32, output: i32, pins: bool) -> Ended
+    ensures { λ r. ⌜ PumpedAs (Replay·printed pins) (toReplay pins) (r .how) (r .whole) ⌝ }
+{
     pump(input, output, false, Job::to_replay(pins))
 }
 
 // The answer to what is asked of the log at one descriptor, written to another.
-pub fn pump_answer(input: i32, output: i32, asked: Asked) -> Ended {
+pub fn pump_answer(input: i32, output: i32, asked: Asked) -> Ended
+    ensures { λ r. ⌜ PumpedAs (Answer·printed asked) (toAnswer asked) (r .how) (r .whole) ⌝ }
+{
     pump(input, output, true, Job::to_answer(asked))
 }
 

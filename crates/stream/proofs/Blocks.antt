@@ -1,0 +1,135 @@
+-- Turns over the parts that reads give: what the runs see is, in order and whole, the sum of the parts, and the last of them is known to be
+-- the last. So the blocks that are handed to the writes are, joined, the text of the whole log, or its beginning; and what stops the last
+-- run is what stops the log.
+-- Assumes nothing.
+use Prim.Native.Nat.{ℕ}
+use mathlib.Core.Bool.{Bool, true, false}
+use mathlib.Core.List.{List, [], _∷_, _++_, append-nil, append-assoc}
+use mathlib.Core.Path.{_≡_, refl, sym, ap, _∙_}
+use native.Mathlib.Omega.{arith}
+use lib.Dec.{eqb}
+use lib.ListN.{length, drop}
+use Rattle.follow.specs.Follow.{runOf}
+use Rattle.follow.specs.Whole.{joined, printedFrom, stopper}
+use Rattle.follow.specs.declared.Next.the-variants.{Wait, Full, Stop}
+use Rattle.follow.proofs.Stream.{waits, run-due}
+use Rattle.follow.proofs.Stops.{run-stops}
+use Rattle.jobs.specs.Job.{worker}
+use Rattle.jobs.specs.declared.Job.{Job}
+use Rattle.jobs.proofs.Jobs.{works}
+use Rattle.window.specs.Window.{unused}
+use Rattle.window.specs.declared.Window.{Window}
+use Rattle.window.proofs.Places.{unused-past}
+use Rattle.stream.specs.declared.State.{State}
+use Rattle.stream.specs.Pump.{pumpStart, ranOver, ranTo, ReadMore, Went, emptied, refilled, someOf, partIn, TurnsDone, none, again, MayFollow}
+
+joined-append : (xs ys : List (List ℕ)) → joined (xs ++ ys) ≡ joined xs ++ joined ys
+joined-append [] ys = refl
+joined-append (x ∷ xs) ys = ap (λ (l : List ℕ). x ++ l) (joined-append xs ys) ∙ sym (append-assoc x (joined xs) (joined ys))
+
+joined-some : (part : List ℕ) → joined (someOf part) ≡ part
+joined-some [] = refl
+joined-some (b ∷ bs) = append-nil (b ∷ bs)
+
+-- what blocks count for
+module _ (counted : List ℕ → List ℕ) where
+  abbrev countedIn : List (List ℕ) → List ℕ
+  countedIn [] = []
+  countedIn (b ∷ bs) = counted b ++ countedIn bs
+
+  one-block : (bs : List (List ℕ)) (b rest : List ℕ) → countedIn (bs ++ (b ∷ [])) ++ rest ≡ countedIn bs ++ (counted b ++ rest)
+  one-block [] b rest = ap (λ (l : List ℕ). l ++ rest) (append-nil (counted b))
+  one-block (c ∷ bs) b rest =
+      append-assoc (counted c) (countedIn (bs ++ (b ∷ []))) rest
+      ∙ ap (λ (l : List ℕ). counted c ++ l) (one-block bs b rest)
+      ∙ sym (append-assoc (counted c) (countedIn bs) (counted b ++ rest))
+
+all-counted : (bs : List (List ℕ)) → countedIn (λ b. b) bs ≡ joined bs
+all-counted [] = refl
+all-counted (b ∷ bs) = ap (λ (l : List ℕ). b ++ l) (all-counted bs)
+
+none-counted : (bs : List (List ℕ)) → countedIn (λ b. []) bs ≡ []
+none-counted [] = refl
+none-counted (b ∷ bs) = none-counted bs
+
+-- what is said of a log, from a job that has come to its bytes: of a run that waits or is full, what its text counts for, and then what is
+-- said of the bytes that are left
+module _ (said : Job → List ℕ → List ℕ) (counted : List ℕ → List ℕ)
+    (full : (j : Job) (l rest : List ℕ) (last : Bool) (room : ℕ) → (last ≡ true → rest ≡ []) → let u = runOf worker j l last room in
+    u .next ≡ Full → said j (l ++ rest) ≡ counted (u .text) ++ said (u .state) (drop (u .at) l ++ rest))
+    (wait : (j : Job) (l rest : List ℕ) (last : Bool) (room : ℕ) → (last ≡ true → rest ≡ []) → let u = runOf worker j l last room in
+    u .next ≡ Wait → said j (l ++ rest) ≡ counted (u .text) ++ said (u .state) (drop (u .at) l ++ rest)) where
+  module _ (s : State) (buffer : List ℕ) (room : ℕ) where
+    -- what the next run sees
+    turn-said : {s′ : State} {buffer′ : List ℕ} (went : Went s buffer room s′ buffer′) (rest : List ℕ) → MayFollow s′ rest
+        → (MayFollow s (joined (partIn went) ++ rest))
+        × (said (s .job) (unused (s .window) buffer ++ (joined (partIn went) ++ rest)) ≡ counted (ranOver s buffer room .text) ++ said (s′ .job) (unused (s′ .window) buffer′ ++ rest))
+    turn-said (emptied e is same) rest may =
+        let may′ = rw is at may in
+        (may′, full (s .job) (unused (s .window) buffer) rest (s .window .last) room may′ e ∙ rw (is, same, unused-past (s .window) (ranOver s buffer room .at) buffer))
+    turn-said {s′} {buffer′} (refilled e r) rest may =
+        let part = r .1 .part in
+        let off = waits worker works (s .job) (unused (s .window) buffer) (s .window .last) room e .0 in
+        let not-last : MayFollow s (joined (someOf part) ++ rest) = λ q. let f = sym q ∙ off in let z : _≡_ {A = ℕ} 0 1 = cc in absurd (omega arith) in
+        let job-is : s′ .job ≡ ranOver s buffer room .state = ap (λ (t : State). t .job) (r .0) in
+        let bytes-are : unused (s′ .window) buffer′ ≡ drop (ranOver s buffer room .at) (unused (s .window) buffer) ++ part = r .1 .bytes ∙ rw (unused-past (s .window) (ranOver s buffer room .at) buffer) in
+        (not-last, wait (s .job) (unused (s .window) buffer) (joined (someOf part) ++ rest) (s .window .last) room not-last e ∙ rw (job-is, bytes-are, joined-some part, append-assoc))
+
+  turns-said : {job : Job} {n : ℕ} {parts blocks : List (List ℕ)} {s : State} {buffer : List ℕ} → TurnsDone job n parts blocks s buffer
+      → (rest : List ℕ) → MayFollow s rest → said job (joined parts ++ rest) ≡ countedIn counted blocks ++ said (s .job) (unused (s .window) buffer ++ rest)
+  unfolding unused
+  turns-said (none buffer) rest may = refl
+  turns-said {job} (again {parts = parts} {blocks = blocks} {s = s} {s′ = s′} {buffer = buffer} {buffer′ = buffer′} room done went) rest may =
+      let t = turn-said s buffer room went rest may in
+      ap (said job) (ap (λ (l : List ℕ). l ++ rest) (joined-append parts (partIn went)) ∙ append-assoc (joined parts) (joined (partIn went)) rest)
+      ∙ turns-said done (joined (partIn went) ++ rest) (t .0)
+      ∙ ap (λ (l : List ℕ). countedIn counted blocks ++ l) (t .1)
+      ∙ sym (one-block counted blocks (ranOver s buffer room .text) (said (s′ .job) (unused (s′ .window) buffer′ ++ rest)))
+
+-- ---- what is printed, and what stops it
+module _ {job : Job} {n : ℕ} {parts blocks : List (List ℕ)} {s : State} {buffer : List ℕ} (done : TurnsDone job n parts blocks s buffer)
+    (rest : List ℕ) (may : MayFollow s rest) where
+  abbrev left : List ℕ
+  left = unused (s .window) buffer
+
+  -- what was written before is the beginning of the text
+  pub written-before : printedFrom worker job (joined parts ++ rest) ≡ joined blocks ++ printedFrom worker (s .job) (left ++ rest)
+  written-before =
+      turns-said (printedFrom worker) (λ b. b)
+      (λ j l rest last room may e. run-due worker works l rest last may j room e .0)
+      (λ j l rest last room may e. run-due worker works l rest last may j room e .0)
+      done rest may
+      ∙ ap (λ (l : List ℕ). l ++ printedFrom worker (s .job) (left ++ rest)) (all-counted blocks)
+
+  stopped-later : printedFrom (stopper worker) job (joined parts ++ rest) ≡ printedFrom (stopper worker) (s .job) (left ++ rest)
+  stopped-later =
+      turns-said (printedFrom (stopper worker)) (λ b. [])
+      (λ j l rest last room may e. run-stops worker works l rest last may j room e)
+      (λ j l rest last room may e. run-stops worker works l rest last may j room e)
+      done rest may
+      ∙ ap (λ (l : List ℕ). l ++ printedFrom (stopper worker) (s .job) (left ++ rest)) (none-counted blocks)
+
+  module _ (room : ℕ) where
+    abbrev text : List ℕ
+    text = ranOver s buffer room .text
+
+    with-last : joined (blocks ++ (text ∷ [])) ≡ joined blocks ++ text
+    with-last = joined-append blocks (text ∷ []) ∙ ap (λ (l : List ℕ). joined blocks ++ l) (append-nil text)
+
+    -- with the last block it is the whole of it, where the run stops
+    pub written-all : ranOver s buffer room .next ≡ Stop → joined (blocks ++ (text ∷ [])) ≡ printedFrom worker job (joined parts ++ rest)
+    written-all e = with-last ∙ ap (λ (l : List ℕ). joined blocks ++ l) (sym (run-due worker works left rest (s .window .last) may (s .job) room e)) ∙ sym written-before
+
+    -- and where it waits, a longer beginning
+    pub written-with : ranOver s buffer room .next ≡ Wait → (later : List ℕ) × (printedFrom worker job (joined parts ++ rest) ≡ joined (blocks ++ (text ∷ [])) ++ later)
+    written-with e = (
+      _,
+      written-before
+          ∙ ap (λ (l : List ℕ). joined blocks ++ l) (run-due worker works left rest (s .window .last) may (s .job) room e .0)
+          ∙ sym (append-assoc (joined blocks) text _)
+          ∙ ap (λ (l : List ℕ). l ++ printedFrom worker (ranOver s buffer room .state) (drop (ranOver s buffer room .at) left ++ rest)) (sym with-last),
+    )
+
+    -- what stops the last run stops the log
+    pub stopped-by : ranOver s buffer room .next ≡ Stop → printedFrom (stopper worker) job (joined parts ++ rest) ≡ ranOver s buffer room .refusal ∷ []
+    stopped-by e = stopped-later ∙ run-stops worker works left rest (s .window .last) may (s .job) room e
