@@ -1,5 +1,8 @@
 // How a program that pumps a log ends. Where the input cannot be read or the output cannot be written, a line on standard error says so.
 // A program has no status of its own: its digit goes to descriptor 3, for a caller that opens it.
+ghost use mathlib.Core.Path.{_≡_};
+ghost use Rattle.stream.specs.Pump.{statusOf};
+ghost use Rattle.ending.specs.Ending.{digitOf};
 use libc::STDERR_FILENO;
 use stream::Ended;
 use stream::How;
@@ -10,9 +13,25 @@ const STATUS_FILENO: i32 = 3;
 // The digit of a program that was not used as it is meant to be.
 const MISUSED: u8 = 2;
 
-fn give_status(status: u8) {
-    let digit = [std::num::wrapping_add_u8(48, status)];
-    io::write_all(STATUS_FILENO, &digit);
+// The digit of a status, in ASCII.
+fn digit_of(status: u8) -> u8
+    ensures { λ r. ⌜ r ≡ digitOf status ⌝ }
+{
+    std::num::wrapping_add_u8(48, status)
+}
+
+// The digit of a program that came to its end so.
+fn give_ended(how: How, digit: u8)
+    requires { ⌜ digit ≡ digitOf (statusOf how) ⌝ }
+{
+    io::write_all(STATUS_FILENO, &[digit]);
+}
+
+// The digit of a program that was not used as it is meant to be.
+fn give_misused(digit: u8)
+    requires { ⌜ digit ≡ digitOf 2 ⌝ }
+{
+    io::write_all(STATUS_FILENO, &[digit]);
 }
 
 // What failed, and the last record of the last text that was written whole.
@@ -34,7 +53,7 @@ pub fn tell_end(program: &[u8], ended: Ended) {
         How::NotRead => tell_failed(program, b"the input cannot be read", ended.whole),
         How::NotWritten => tell_failed(program, b"the output cannot be written", ended.whole),
     }
-    give_status(status_of(how));
+    give_ended(how, digit_of(status_of(how)));
 }
 
 // The end of a program that was not used as it is meant to be: how it is used.
@@ -43,5 +62,5 @@ pub fn tell_use(program: &[u8], use_line: &[u8]) {
     io::write_all(STDERR_FILENO, b": ");
     io::write_all(STDERR_FILENO, use_line);
     io::write_all(STDERR_FILENO, b"\n");
-    give_status(MISUSED);
+    give_misused(digit_of(MISUSED));
 }
