@@ -1,0 +1,3 @@
+pub mod Stops
+pub mod Programs
+pub mod Contracts

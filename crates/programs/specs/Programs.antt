@@ -1,0 +1,43 @@
+-- What the status of a program means, and what it writes: of the replay, and of the answer, by what their pumps promise.
+use Prim.Native.Nat.{ℕ}
+use mathlib.Core.Bool.{Bool}
+use mathlib.Core.List.{List, [], _∷_, _++_}
+use mathlib.Core.Logic.{_⊎_, _↔_}
+use mathlib.Core.Path.{_≡_}
+use Rattle.follow.specs.Whole.{joined}
+use Rattle.text.specs.Text.{decimal}
+use Rattle.jobs.specs.declared.Job.{Job}
+use Rattle.stream.specs.Pump.{MayFollow, allBlocks, StoppedLog, PumpedAs, statusOf}
+use Rattle.stream.specs.declared.How.{How}
+use Rattle.stream.specs.declared.How.the-variants.{On, Stopped, NotRead, NotWritten}
+use Rattle.ending.specs.Ending.{digitOf}
+use Rattle.programs.specs.Stops.{LogStops}
+
+-- a pump followed a log to where it stops: the log begins with the parts that came, and is their sum where its end was seen
+pub record Followed (printed : List ℕ → List ℕ) (job : Job) (how : How) (whole : ℕ) (log : List ℕ) : Type 0 where
+  pub refusal : ℕ
+  pub how-is : how ≡ Stopped refusal
+  pub stopped : StoppedLog printed job refusal whole
+  pub rest : List ℕ
+  pub may : MayFollow (stopped .last .state) rest
+  pub log-is : log ≡ joined (stopped .last .parts) ++ rest
+
+-- a read or a write failed, or more came than the turns of a pump can do
+abbrev pub Failed : How → Type 0
+Failed how = (how ≡ NotRead) ⊎ ((how ≡ NotWritten) ⊎ (how ≡ On))
+
+-- of a program whose pump has this job and prints this
+pub record StatusMeans (printed : List ℕ → List ℕ) (job : Job) : Type 0 where
+  -- every pump has failed, or followed a log
+  pub each : (how : How) (whole : ℕ) → PumpedAs printed job how whole → Failed how ⊎ ((log : List ℕ) × Followed printed job how whole log)
+  -- what it handed to its writes is, joined, what is printed of that log
+  pub text : (how : How) (whole : ℕ) (log : List ℕ) (f : Followed printed job how whole log) → joined (allBlocks (f .stopped .last)) ≡ printed log
+  -- 0 exactly where the log ended at a record boundary, and nothing was refused
+  pub done : (how : How) (whole : ℕ) (log : List ℕ) → Followed printed job how whole log → (statusOf how ≡ 0) ↔ LogStops log 0
+  -- 3 exactly where 7, 8 or 9 stopped it
+  pub refused : (how : How) (whole : ℕ) (log : List ℕ) → Followed printed job how whole log
+      → (statusOf how ≡ 3) ↔ (LogStops log 7 ⊎ (LogStops log 8 ⊎ LogStops log 9))
+  -- 1 exactly where a call failed, or the input was too long
+  pub failed : (how : How) → (statusOf how ≡ 1) ↔ Failed how
+  -- and what goes to descriptor 3 is its digit
+  pub digit : (how : How) → digitOf (statusOf how) ∷ [] ≡ decimal (statusOf how)
