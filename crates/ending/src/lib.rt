@@ -2,7 +2,7 @@
 // A program has no status of its own: its digit goes to descriptor 3, for a caller that opens it.
 ghost use mathlib.Core.Path.{_≡_};
 ghost use Rattle.stream.specs.Pump.{statusOf};
-ghost use Rattle.ending.specs.Ending.{digitOf};
+ghost use Rattle.ending.specs.Ending.{digitOf, misused};
 use libc::STDERR_FILENO;
 use stream::Ended;
 use stream::How;
@@ -10,7 +10,7 @@ use stream::status_of;
 
 const STATUS_FILENO: i32 = 3;
 
-// The digit of a program that was not used as it is meant to be.
+// The status of a program that was not used as it is meant to be.
 const MISUSED: u8 = 2;
 
 // The digit of a status, in ASCII.
@@ -29,7 +29,7 @@ fn give_ended(how: How, digit: u8)
 
 // The digit of a program that was not used as it is meant to be.
 fn give_misused(digit: u8)
-    requires { ⌜ digit ≡ digitOf 2 ⌝ }
+    requires { ⌜ digit ≡ digitOf misused ⌝ }
 {
     io::write_all(STATUS_FILENO, &[digit]);
 }

@@ -6,7 +6,7 @@ use mathlib.Core.List.{List, [], _∷_, _++_, append-nil}
 use mathlib.Core.Logic.{_⊎_, inl, inr, _↔_}
 use mathlib.Core.Path.{_≡_, refl, sym, ap, subst, _∙_}
 use native.Mathlib.Omega.{arith}
-use borrow.Author.Tests.{eqb-true, eqb-false}
+use borrow.Author.Tests.{eqb-true, eqb-false, le-ltb}
 use lib.Dec.{eqb}
 use lib.ListN.{getD}
 use Rattle.laws.specs.Choice.{pick}
@@ -23,7 +23,7 @@ use Rattle.stream.specs.declared.How.the-variants.{On, Stopped, NotRead, NotWri
 use Rattle.stream.proofs.Blocks.{stopped-by}
 use Rattle.ending.specs.Ending.{digitOf}
 use Rattle.programs.specs.Stops.{LogStops}
-use Rattle.programs.specs.Programs.{Followed, Failed, StatusMeans}
+use Rattle.programs.specs.Programs.{Followed, Failed, StatusMeans, ReadMeans, MisuseMeans}
 use Rattle.programs.proofs.Stops.{first-number, log-number, number-log, refused-so}
 
 -- ---- by how a pump ended
@@ -125,3 +125,11 @@ replay-means pins = means (replay.printed pins) (toReplay pins) refl
 pub answer-means : (asked : Asked) → StatusMeans (answer.printed asked) (toAnswer asked)
 unfolding answer.start
 answer-means asked = means (answer.printed asked) (toAnswer asked) refl
+
+-- ---- of a read, and of a program that was not used as it is meant to be
+pub read-means : ReadMeans
+read-means = record { failed = λ k room. refl; came = λ k room few. (le-ltb k 0 (omega arith), omega (arith, few)) }
+
+pub misuse-means : MisuseMeans
+unfolding decimal lastDigits
+misuse-means = record { digit = refl }

@@ -1,16 +1,18 @@
 -- What the status of a program means, and what it writes: of the replay, and of the answer, by what their pumps promise.
-use Prim.Native.Nat.{ℕ}
-use mathlib.Core.Bool.{Bool}
+use Prim.Native.Nat.{ℕ, _≤_}
+use mathlib.Core.Bool.{true, false}
 use mathlib.Core.List.{List, [], _∷_, _++_}
 use mathlib.Core.Logic.{_⊎_, _↔_}
 use mathlib.Core.Path.{_≡_}
+use lib.IntN.{pos, negsuc}
 use Rattle.follow.specs.Whole.{joined}
 use Rattle.text.specs.Text.{decimal}
 use Rattle.jobs.specs.declared.Job.{Job}
+use Rattle.window.specs.Given.{gotOf}
 use Rattle.stream.specs.Pump.{MayFollow, allBlocks, StoppedLog, PumpedAs, statusOf}
 use Rattle.stream.specs.declared.How.{How}
 use Rattle.stream.specs.declared.How.the-variants.{On, Stopped, NotRead, NotWritten}
-use Rattle.ending.specs.Ending.{digitOf}
+use Rattle.ending.specs.Ending.{digitOf, misused}
 use Rattle.programs.specs.Stops.{LogStops}
 
 -- a pump followed a log to where it stops: the log begins with the parts that came, and is their sum where its end was seen
@@ -19,7 +21,7 @@ pub record Followed (printed : List ℕ → List ℕ) (job : Job) (how : How) (w
   pub how-is : how ≡ Stopped refusal
   pub stopped : StoppedLog printed job refusal whole
   pub rest : List ℕ
-  pub may : MayFollow (stopped .last .state) rest
+  pub may : MayFollow (stopped .last .done) rest
   pub log-is : log ≡ joined (stopped .last .parts) ++ rest
 
 -- a read or a write failed, or more came than the turns of a pump can do
@@ -41,3 +43,14 @@ pub record StatusMeans (printed : List ℕ → List ℕ) (job : Job) : Type 0 wh
   pub failed : (how : How) → (statusOf how ≡ 1) ↔ Failed how
   -- and what goes to descriptor 3 is its digit
   pub digit : (how : How) → digitOf (statusOf how) ∷ [] ≡ decimal (statusOf how)
+
+-- ---- what is made of the answer of a read into so much room: -1, or how many bytes it moved
+pub record ReadMeans : Type 0 where
+  -- a read that fails is no end of the log
+  pub failed : (k room : ℕ) → gotOf (negsuc k) room .failed ≡ true
+  -- and else all that came counts: the end is where nothing did
+  pub came : (k room : ℕ) → k ≤ room → (gotOf (pos k) room .failed ≡ false) × (gotOf (pos k) room .count ≡ k)
+
+-- ---- a program that was not used as it is meant to be gives 2
+pub record MisuseMeans : Type 0 where
+  pub digit : digitOf misused ∷ [] ≡ decimal 2

@@ -7,6 +7,7 @@ use mathlib.Core.Bool.{Bool, true, false}
 use mathlib.Core.List.{List, [], _∷_, _++_, append-nil, append-assoc}
 use mathlib.Core.Path.{_≡_, refl, sym, ap, _∙_}
 use native.Mathlib.Omega.{arith}
+use borrow.Author.Tests.{ne-eqb}
 use lib.Dec.{eqb}
 use lib.ListN.{length, drop}
 use Rattle.follow.specs.Follow.{runOf}
@@ -21,7 +22,7 @@ use Rattle.window.specs.Window.{unused}
 use Rattle.window.specs.declared.Window.{Window}
 use Rattle.window.proofs.Places.{unused-past}
 use Rattle.stream.specs.declared.State.{State}
-use Rattle.stream.specs.Pump.{pumpStart, ranOver, ranTo, ReadMore, Went, emptied, refilled, someOf, partIn, TurnsDone, none, again, MayFollow}
+use Rattle.stream.specs.Pump.{pumpStart, ranOver, ranTo, ReadMore, Went, emptied, refilled, someOf, partIn, isNone, endIn, endSeen, TurnsDone, none, again, MayFollow}
 
 joined-append : (xs ys : List (List ℕ)) → joined (xs ++ ys) ≡ joined xs ++ joined ys
 joined-append [] ys = refl
@@ -30,6 +31,10 @@ joined-append (x ∷ xs) ys = ap (λ (l : List ℕ). x ++ l) (joined-append xs y
 joined-some : (part : List ℕ) → joined (someOf part) ≡ part
 joined-some [] = refl
 joined-some (b ∷ bs) = append-nil (b ∷ bs)
+
+-- what may stand behind the parts that came, by the mark of the end in a state
+abbrev OpenTo : State → List ℕ → Type 0
+OpenTo s rest = s .window .last ≡ true → rest ≡ []
 
 -- what blocks count for
 module _ (counted : List ℕ → List ℕ) where
@@ -61,8 +66,8 @@ module _ (said : Job → List ℕ → List ℕ) (counted : List ℕ → List ℕ
     u .next ≡ Wait → said j (l ++ rest) ≡ counted (u .text) ++ said (u .state) (drop (u .at) l ++ rest)) where
   module _ (s : State) (buffer : List ℕ) (room : ℕ) where
     -- what the next run sees
-    turn-said : {s′ : State} {buffer′ : List ℕ} (went : Went s buffer room s′ buffer′) (rest : List ℕ) → MayFollow s′ rest
-        → (MayFollow s (joined (partIn went) ++ rest))
+    turn-said : {s′ : State} {buffer′ : List ℕ} (went : Went s buffer room s′ buffer′) (rest : List ℕ) → OpenTo s′ rest
+        → (OpenTo s (joined (partIn went) ++ rest))
         × (said (s .job) (unused (s .window) buffer ++ (joined (partIn went) ++ rest)) ≡ counted (ranOver s buffer room .text) ++ said (s′ .job) (unused (s′ .window) buffer′ ++ rest))
     turn-said (emptied e is same) rest may =
         let may′ = rw is at may in
@@ -70,13 +75,13 @@ module _ (said : Job → List ℕ → List ℕ) (counted : List ℕ → List ℕ
     turn-said {s′} {buffer′} (refilled e r) rest may =
         let part = r .1 .part in
         let off = waits worker works (s .job) (unused (s .window) buffer) (s .window .last) room e .0 in
-        let not-last : MayFollow s (joined (someOf part) ++ rest) = λ q. let f = sym q ∙ off in let z : _≡_ {A = ℕ} 0 1 = cc in absurd (omega arith) in
+        let not-last : OpenTo s (joined (someOf part) ++ rest) = λ q. let f = sym q ∙ off in let z : _≡_ {A = ℕ} 0 1 = cc in absurd (omega arith) in
         let job-is : s′ .job ≡ ranOver s buffer room .state = ap (λ (t : State). t .job) (r .0) in
         let bytes-are : unused (s′ .window) buffer′ ≡ drop (ranOver s buffer room .at) (unused (s .window) buffer) ++ part = r .1 .bytes ∙ rw (unused-past (s .window) (ranOver s buffer room .at) buffer) in
         (not-last, wait (s .job) (unused (s .window) buffer) (joined (someOf part) ++ rest) (s .window .last) room not-last e ∙ rw (job-is, bytes-are, joined-some part, append-assoc))
 
   turns-said : {job : Job} {n : ℕ} {parts blocks : List (List ℕ)} {s : State} {buffer : List ℕ} → TurnsDone job n parts blocks s buffer
-      → (rest : List ℕ) → MayFollow s rest → said job (joined parts ++ rest) ≡ countedIn counted blocks ++ said (s .job) (unused (s .window) buffer ++ rest)
+      → (rest : List ℕ) → OpenTo s rest → said job (joined parts ++ rest) ≡ countedIn counted blocks ++ said (s .job) (unused (s .window) buffer ++ rest)
   unfolding unused
   turns-said (none buffer) rest may = refl
   turns-said {job} (again {parts = parts} {blocks = blocks} {s = s} {s′ = s′} {buffer = buffer} {buffer′ = buffer′} room done went) rest may =
@@ -86,9 +91,25 @@ module _ (said : Job → List ℕ → List ℕ) (counted : List ℕ → List ℕ
       ∙ ap (λ (l : List ℕ). countedIn counted blocks ++ l) (t .1)
       ∙ sym (one-block counted blocks (ranOver s buffer room .text) (said (s′ .job) (unused (s′ .window) buffer′ ++ rest)))
 
+-- the state knows whether the end was seen
+none-long : (part : List ℕ) → isNone part ≡ eqb (length part) 0
+none-long [] = refl
+none-long (b ∷ bs) = sym (ne-eqb (length (b ∷ bs)) 0 (λ e. omega arith))
+
+end-marked : {job : Job} {n : ℕ} {parts blocks : List (List ℕ)} {s : State} {buffer : List ℕ} (done : TurnsDone job n parts blocks s buffer) → endSeen done ≡ s .window .last
+end-marked (none buffer) = refl
+end-marked (again {s = s} {s′ = s′} {buffer = buffer} {buffer′ = buffer′} room done went) = go (end-marked done) went
+  where
+    go : endSeen done ≡ s .window .last → (w : Went s buffer room s′ buffer′) → endIn (endSeen done) w ≡ s′ .window .last
+    go e (emptied full is same) = e ∙ sym (ap (λ (t : State). t .window .last) is)
+    go e (refilled waits r) = none-long (r .1 .part) ∙ sym (ap (λ (t : Window). t .last) (r .1 .window))
+
 -- ---- what is printed, and what stops it
 module _ {job : Job} {n : ℕ} {parts blocks : List (List ℕ)} {s : State} {buffer : List ℕ} (done : TurnsDone job n parts blocks s buffer)
-    (rest : List ℕ) (may : MayFollow s rest) where
+    (rest : List ℕ) (may′ : MayFollow done rest) where
+  may : OpenTo s rest
+  may q = may′ (end-marked done ∙ q)
+
   abbrev left : List ℕ
   left = unused (s .window) buffer
 

@@ -121,9 +121,22 @@ pub data TurnsDone (job : Job) : ℕ → List (List ℕ) → List (List ℕ) →
       → (went : Went s buffer room s′ buffer′)
       → TurnsDone job (suc n) (parts ++ partIn went) (blocks ++ (ranOver s buffer room .text ∷ [])) s′ buffer′
 
--- what may stand behind the parts that came: nothing, where the end of the input was seen
-abbrev pub MayFollow : State → List ℕ → Type 0
-MayFollow s rest = s .window .last ≡ true → rest ≡ []
+-- whether the end of the input was seen: a read gave nothing
+abbrev pub isNone : List ℕ → Bool
+isNone [] = true
+isNone (byte ∷ bytes) = false
+
+abbrev pub endIn : {s s′ : State} {buffer buffer′ : List ℕ} {room : ℕ} → Bool → Went s buffer room s′ buffer′ → Bool
+endIn before (emptied full is same) = before
+endIn before (refilled waits r) = isNone (r .1 .part)
+
+abbrev pub endSeen : {job : Job} {n : ℕ} {parts blocks : List (List ℕ)} {s : State} {buffer : List ℕ} → TurnsDone job n parts blocks s buffer → Bool
+endSeen (none buffer) = false
+endSeen (again room done went) = endIn (endSeen done) went
+
+-- what may stand behind the parts that came: nothing, where the end was seen
+abbrev pub MayFollow : {job : Job} {n : ℕ} {parts blocks : List (List ℕ)} {s : State} {buffer : List ℕ} → TurnsDone job n parts blocks s buffer → List ℕ → Type 0
+MayFollow done rest = endSeen done ≡ true → rest ≡ []
 
 -- ---- the end of a pump, by the job that it began with; printed is what that job prints of a log
 -- the last turn, behind the others
@@ -154,12 +167,12 @@ wholeBlocks NotWritten l = l .blocks
 -- the log stopped: the blocks are, joined, what is printed of the parts, joined; and what may stand behind those changes nothing
 pub record StoppedLog (printed : List ℕ → List ℕ) (job : Job) (refusal whole : ℕ) : Type 0 where
   pub last : LastTurn job (Stopped refusal) whole
-  pub text : (rest : List ℕ) → MayFollow (last .state) rest → joined (allBlocks last) ≡ printed (joined (last .parts) ++ rest)
+  pub text : (rest : List ℕ) → MayFollow (last .done) rest → joined (allBlocks last) ≡ printed (joined (last .parts) ++ rest)
 
 -- a call failed: the blocks that were written whole are, joined, the beginning of what is printed of the parts with what may stand behind
 pub record CallFailed (printed : List ℕ → List ℕ) (job : Job) (how : How) (whole : ℕ) : Type 0 where
   pub last : LastTurn job how whole
-  pub text : (rest : List ℕ) → MayFollow (last .state) rest
+  pub text : (rest : List ℕ) → MayFollow (last .done) rest
       → (later : List ℕ) × (printed (joined (last .parts) ++ rest) ≡ joined (wholeBlocks how last) ++ later)
 
 -- more came than so many turns can do
