@@ -22,7 +22,8 @@ turn-spec =
     (λ c. search needs)
     (λ c. let ran = c .before .before .before .before in
     let start = ran .before .before .before .before .before in
-    text-there (start .args .state) (now (start .args .buffer)) (length (now (start .args .text))) (start .pre .1) (ran .run-over .ensures))
+    let there = text-there (start .args .state) (now (start .args .buffer)) (length (now (start .args .text))) (start .pre .1) (ran .run-over .ensures) in
+    search (needs, there))
     (λ c κs. let ran = c .before .before .before .before in
     let start = ran .before .before .before .before .before in
     text-handed (start .args .state) (now (start .args .buffer)) (length (now (start .args .text))) (start .pre .1) (ran .run-over .ensures))
