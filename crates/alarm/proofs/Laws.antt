@@ -54,9 +54,9 @@ module _ (us : ℕ) (a : Alarm) where
   stands h = rw (lt-ltb 0 (a .remaining) (omega arith), lt-leb (a .remaining) us h)
 
   -- "when the clock since its setting reaches that time"
-  pub reached : ¬ (a .remaining ≡ 0) → a .remaining ≤ us → lapseOf us a ≡ Expires (us - a .remaining)
+  pub time-reached : ¬ (a .remaining ≡ 0) → a .remaining ≤ us → lapseOf us a ≡ Expires (us - a .remaining)
   unfolding lapseOf
-  reached h k = rw (lt-ltb 0 (a .remaining) (omega arith), le-leb (a .remaining) us k)
+  time-reached h k = rw (lt-ltb 0 (a .remaining) (omega arith), le-leb (a .remaining) us k)
 
 -- what of the clock comes after an expiry
 abbrev pub restIn : Lapse → ℕ
@@ -65,7 +65,7 @@ restIn (Expires rest) = rest
 
 -- "Two clock events in a row equal one of their sum": what remained and the rest that is told are the whole clock
 pub parts : (us : ℕ) (a : Alarm) → ¬ (a .remaining ≡ 0) → a .remaining ≤ us → a .remaining + restIn (lapseOf us a) ≡ us
-parts us a h k = rw (reached us a h k) (omega arith)
+parts us a h k = rw (time-reached us a h k) (omega arith)
 
 -- a clock of 0 changes nothing
 pub none-passes : (a : Alarm) → lapseOf 0 a ≡ Stands a

@@ -12,7 +12,7 @@ use Rattle.codes.specs.Range.{isReservedRange}
 use Rattle.codes.specs.declared.Range.{Range}
 use Rattle.codes.specs.declared.Range.the-variants.{G2, G4, G8, G16, Reserved}
 use Rattle.benchlog.specs.Reader.{readAt, readVersion}
-use Rattle.benchlog.specs.Whole.{Bytes, Proper}
+use Rattle.benchlog.specs.Whole.{Bytes, FieldsFit}
 use Rattle.benchlog.specs.declared.Entry.{Entry}
 use Rattle.benchlog.specs.declared.Entry.the-variants as entry
 use Rattle.benchlog.specs.declared.Found.{Found}
@@ -31,7 +31,7 @@ use Rattle.rules.proofs.Stored.{stored-is}
 use Rattle.stretches.specs.Histories.{accountOf, Stretch, Between, Each}
 use Rattle.stretches.proofs.Ranges.{range-known}
 use Rattle.told.specs.Histories.{eventsAs, eventsOnto}
-use Rattle.told.specs.Plain.{allOf, before, seenAt, lineOf}
+use Rattle.told.specs.Plain.{printedStretches, before, seenAt, lineOf}
 use Rattle.told.proofs.Stretches.{all-of-lead}
 use Rattle.ranges.specs.Ranges.{MeansG}
 use Rattle.ranges.proofs.Ranges.{range-means, known-some}
@@ -136,13 +136,13 @@ lines-between moded (s ∷ ss) h k b writes =
 
 pub answered-ranges : (es : List Event) → ByteWrites es → AnsweredRanges es
 answered-ranges es writes = record {
-  lines = λ moded. lines-between moded (allOf es) [] es (all-of-lead es) writes;
+  lines = λ moded. lines-between moded (printedStretches es) [] es (all-of-lead es) writes;
   words = λ earlier part. told-range earlier (earlier-writes (part .0) earlier (subst ByteWrites (part .1) writes));
 }
 
 -- ---- any log
 -- the event of a record that was read writes a byte
-record-writes : (r : Entry) → Proper r → (es : List Event) → ByteWrites es → ByteWrites (eventOf r ∷ es)
+record-writes : (r : Entry) → FieldsFit r → (es : List Event) → ByteWrites es → ByteWrites (eventOf r ∷ es)
 unfolding eventOf
 record-writes (entry.Write w) p es b = (p .1, b)
 record-writes (entry.Read q) p es b = b

@@ -12,7 +12,7 @@ use Rattle.counts.specs.Counts.{sum}
 use Rattle.counts.specs.declared.Doubt.{Doubt}
 use Rattle.wording.specs.Wording.{column, doubtSign, fromText, becauseText, rangeLine}
 use Rattle.stretches.specs.Histories.{accountOf, doubtOf, noRange, Stretch, Part, Each}
-use Rattle.told.specs.Plain.{allOf, seenAt, lineOf}
+use Rattle.told.specs.Plain.{printedStretches, seenAt, lineOf}
 use Rattle.ranges.specs.Ranges.{IsOther}
 
 -- the low nibble of the byte that a history leaves at 0x0F
@@ -47,5 +47,5 @@ pub record ToldRange (es : List Event) : Type 0 where
 
 -- of a whole log's events: every line of a stretch, and the words behind any of its records
 pub record AnsweredRanges (es : List Event) : Type 0 where
-  pub lines : (moded : Bool) → Each (ThirdColumn moded) (allOf es)
+  pub lines : (moded : Bool) → Each (ThirdColumn moded) (printedStretches es)
   pub words : (earlier : List Event) → Part earlier es → ToldRange earlier

@@ -28,9 +28,9 @@ use Rattle.events.specs.Bank.{bank}
 use Rattle.events.specs.Parts.{detectorsNext}
 use Rattle.events.proofs.Parts.{detectors-next}
 use Rattle.events.proofs.Runs.{bank-is}
-use Rattle.anymotion.specs.InForce.{inForce, isTaken, pointsAsked, isNonLatched, timeAsked, isTakenAt, startsAnew, clearing, restarts, forgetting, forgets, Signed, fits, brings, passing}
-use Rattle.anymotion.specs.Points.{Axis, OverAxes, samples, pointOfTwo, pointAt}
-use Rattle.anymotion.specs.Status.{isSetBy, seen, points, clockSince, isSet, sets, expires}
+use Rattle.anymotion.specs.InForce.{inForce, isAccepted, pointsAsked, isNonLatched, timeAsked, isAcceptedAt, startsAnew, clearing, restarts, forgetting, forgets, Signed, fits, brings, passing}
+use Rattle.anymotion.specs.Points.{AxisDifference, OverAxes, samples, pointOfTwo, pointAt}
+use Rattle.anymotion.specs.Status.{isSetBy, lookBack, points, clockSince, isSet, sets, expires}
 use Rattle.anymotion.specs.Marks.{firstAxis, markedAxes}
 use Rattle.anymotion.proofs.Settings.{latch-is, hold-is, sample-taken, restarts-is, forgets-is, in-force-kept}
 use Rattle.anymotion.proofs.Points.{Follows, asPoints, OneOrNone, one-or-none, alarmBy, motionBy, markedOn, sinceOn, point-is, point-next}
@@ -48,7 +48,7 @@ motionAfter es = motionBy (pointsAsked es) (isNonLatched es) (timeAsked es) (poi
 -- ---- an event after a history
 -- the clock since the setting begins anew where the event sets the status
 pub since-next : (es : List Event) (e : Event) → clockSince (e ∷ es) ≡ pick (both (not (isSet es)) (isSet (e ∷ es))) 0 (clockSince es + passing e)
-unfolding seen
+unfolding lookBack
 since-next es e = refl
 
 -- where it restarts nothing, the settings stay
@@ -64,7 +64,7 @@ module _ (es : List Event) (e : Event) (same : restarts es e ≡ false) where
 
   pub not-anew : startsAnew e ≡ false
   unfolding restarts
-  not-anew = go (startsAnew e) (isTakenAt clearing es e) same
+  not-anew = go (startsAnew e) (isAcceptedAt clearing es e) same
     where
       go : (t s : Bool) → either t s ≡ false → t ≡ false
       go true s h = h
@@ -82,7 +82,7 @@ module _ (es : List Event) (e : Event) (same : restarts es e ≡ false) where
 
   module _ (lasts : expires es e ≡ false) where
     pub points-kept : points (e ∷ es) ≡ pointAt es e ++ points es
-    unfolding seen expires
+    unfolding lookBack expires
     points-kept = rw (same, lasts)
 
     -- no point: the clock goes on
@@ -121,12 +121,12 @@ unfolding isSetBy
 none-set es h = rw h
 
 pub first-unset : isSet [] ≡ false
-unfolding seen isSetBy
+unfolding lookBack isSetBy
 first-unset = refl
 
 module _ (es : List Event) (e : Event) where
   pub expiry-empties : expires es e ≡ true → points (e ∷ es) ≡ []
-  unfolding seen expires
+  unfolding lookBack expires
   expiry-empties h = rw h (go (restarts es e))
     where
       go : (t : Bool) → pick {A = List OverAxes} t [] [] ≡ []
@@ -153,7 +153,7 @@ module _ (es : List Event) (e : Event) where
 
   -- a restart is not left with a status
   pub restart-empties : restarts es e ≡ true → points (e ∷ es) ≡ []
-  unfolding seen
+  unfolding lookBack
   restart-empties r = rw r
 
 -- while a status is held for a time, the clock since its setting is less than that time
@@ -196,23 +196,23 @@ idle-next es e d r f b n h = record { previous = rw (f, b) (h .previous); motion
 
 -- power-up and soft reset
 anew-next : (es : List Event) (e : Event) → startsAnew e ≡ true → Agrees (e ∷ es) allQuiet
-unfolding samples seen markedAxes restarts forgets isSetBy
+unfolding samples lookBack markedAxes restarts forgets isSetBy
 anew-next es e h = record { previous = rw h; motion = rw h }
 
 -- ---- a write
 module _ (es : List Event) (a byte : ℕ) (d : Detectors) (h : Agrees es d) where
   abbrev clears : Bool
-  clears = both (isTaken es a byte) (isIn clearing a)
+  clears = both (isAccepted es a byte) (isIn clearing a)
 
   abbrev loses : Bool
-  loses = both (isTaken es a byte) (isIn forgetting a)
+  loses = both (isAccepted es a byte) (isIn forgetting a)
 
   module _ (old : startsAnew (write a byte) ≡ false) where
     cleared-next : clears ≡ true → restarted (d .motion) ≡ motionAfter (write a byte ∷ es)
-    unfolding restarted seen markedAxes restarts sets isSetBy
+    unfolding restarted lookBack markedAxes restarts sets isSetBy
     cleared-next r = rw (h .motion, old, r, same (both (not (isSet es)) false) (markedAxes es))
       where
-        same : (t : Bool) (m : List Axis) → pick t m m ≡ m
+        same : (t : Bool) (m : List AxisDifference) → pick t m m ≡ m
         same true m = refl
         same false m = refl
 
@@ -322,7 +322,7 @@ agrees-next es d h cycle = idle-next es cycle d refl refl refl refl h
 agrees-next es d h (clock us) = clock-next es us d h
 
 agrees : (es : List Event) → Agrees es (after es .detectors)
-unfolding after device.powerUp samples seen markedAxes isSetBy
+unfolding after device.powerUp samples lookBack markedAxes isSetBy
 agrees [] = record { previous = refl; motion = refl }
 agrees (e ∷ es) = rw (detectors-next (after es) e, bank-is es) (agrees-next es (after es .detectors) (agrees es) e)
 

@@ -17,7 +17,7 @@ use Rattle.events.proofs.Runs.{alike-later}
 use Rattle.rules.proofs.Registers.{reads-tabled}
 use Rattle.anymotion.specs.InForce.{inForce, pointsAsked, timeAsked, restarts, Signed, brings, passing}
 use Rattle.anymotion.specs.Points.{OverAxes, samples, anyEnabled, pointOfTwo, pointAt}
-use Rattle.anymotion.specs.Status.{isOver, lastAre, isSetBy, timeReached, seen, points, clockSince, isSet, sets, expires}
+use Rattle.anymotion.specs.Status.{isOver, lastAre, isSetBy, timeReached, lookBack, points, clockSince, isSet, sets, expires}
 use Rattle.anymotion.specs.Marks.{marksByte}
 use Rattle.anymotion.specs.Held.{clockOver, NoneRestarts, SetFor, samplesOver, ClearsAt, HeldFor}
 use Rattle.anymotion.proofs.Settings.{timed-holds}
@@ -104,13 +104,13 @@ point-per-sample enabled threshold (new ∷ news) (old ∷ olds) =
 module _ (es : List Event) (none : points es ≡ []) where
   -- so where no point counts, those that count later are no more than the samples that came since
   points-since : (later : List Event) → length (points (later ++ es)) ≤ samplesOver later
-  unfolding seen pointAt
+  unfolding lookBack pointAt
   points-since [] = rw none (omega arith)
   points-since (e ∷ later) =
       let h = later ++ es in
       let one = point-per-sample (inForce h 0x16) (inForce h 0x28) (brings e) (samples h) in
       let more : length (pointAt h e ++ points h) ≤ samplesOver (e ∷ later) = simp length-append (omega (arith, one, points-since later)) in
-      few _ (few (pointAt h e ++ points h) more (timeReached h e (seen h))) (restarts h e)
+      few _ (few (pointAt h e ++ points h) more (timeReached h e (lookBack h))) (restarts h e)
     where
       few : (ps : List OverAxes) → length ps ≤ samplesOver (e ∷ later) → (t : Bool) → length (pick t [] ps) ≤ samplesOver (e ∷ later)
       few ps l t = picked (λ (qs : List OverAxes). length qs ≤ samplesOver (e ∷ later)) t (omega arith) l

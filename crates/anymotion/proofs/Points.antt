@@ -25,7 +25,7 @@ use Rattle.motion.specs.Detector.{pointsNeeded, afterOver, afterCalm, afterPoin
 use Rattle.motion.specs.declared.Motion.{Motion}
 use Rattle.motion.specs.declared.Settings.{Settings}
 use Rattle.anymotion.specs.InForce.{Signed}
-use Rattle.anymotion.specs.Points.{Axis, OverAxes, axesBetween, isAbove, aboveAmong, anyEnabled, pointOfTwo}
+use Rattle.anymotion.specs.Points.{AxisDifference, OverAxes, axesBetween, isAbove, aboveAmong, anyEnabled, pointOfTwo}
 use Rattle.anymotion.specs.Status.{isOver, isCalm, lastAre, isSetBy}
 use Rattle.anymotion.specs.Marks.{firstAxis, markOf, signOf}
 use Rattle.anymotion.proofs.Settings.{none-enabled}
@@ -59,16 +59,16 @@ module _ (enabled threshold : ℕ) where
   over-is old new = rw (above-is 0 (old .x) (new .x), above-is 1 (old .y) (new .y), above-is 2 (old .z) (new .z))
       (go (isAbove enabled threshold x) (isAbove enabled threshold y) (isAbove enabled threshold z))
     where
-      x : Axis
+      x : AxisDifference
       x = record { place = 0; difference = new .x -ℤ old .x }
 
-      y : Axis
+      y : AxisDifference
       y = record { place = 1; difference = new .y -ℤ old .y }
 
-      z : Axis
+      z : AxisDifference
       z = record { place = 2; difference = new .z -ℤ old .z }
 
-      falls : Axis → Bool
+      falls : AxisDifference → Bool
       falls a = ltZ (a .difference) (pos 0)
 
       go : (s t u : Bool) → pick s (Over 1 (falls x)) (pick t (Over 2 (falls y)) (pick u (Over 4 (falls z)) Calm))
@@ -114,13 +114,13 @@ calms-last (suc n) ((a ∷ axes) ∷ ps) = leb·suc-zero n
 
 -- ---- the detector, where n in a row are asked for and the status is held for hold microseconds, after these points, with these axes marked,
 -- and with so much clock since its setting
-abbrev pub alarmBy : Bool → List Axis → ℕ → Alarm
+abbrev pub alarmBy : Bool → List AxisDifference → ℕ → Alarm
 alarmBy status marked left = record { status = status; mark = pick status (markOf marked) 0; negative = signOf marked; remaining = pick status left 0 }
 
-abbrev pub motionBy : ℕ → Bool → ℕ → List OverAxes → List Axis → ℕ → Motion
+abbrev pub motionBy : ℕ → Bool → ℕ → List OverAxes → List AxisDifference → ℕ → Motion
 motionBy n nonLatched hold ps marked since = record { runs = runsAfter n (map isOver ps); alarm = alarmBy (isSetBy n nonLatched ps) marked (hold - since) }
 
-module _ (k : ℕ) (nonLatched : Bool) (hold : ℕ) (ps : List OverAxes) (marked : List Axis) (since : ℕ) where
+module _ (k : ℕ) (nonLatched : Bool) (hold : ℕ) (ps : List OverAxes) (marked : List AxisDifference) (since : ℕ) where
   abbrev n : ℕ
   n = suc k
 
@@ -129,7 +129,7 @@ module _ (k : ℕ) (nonLatched : Bool) (hold : ℕ) (ps : List OverAxes) (marked
   setsOn p = both (not (isSetBy n nonLatched ps)) (isSetBy n nonLatched (p ∷ ps))
 
   -- the axes marked after it, and the clock since the setting
-  abbrev pub markedOn : OverAxes → List Axis
+  abbrev pub markedOn : OverAxes → List AxisDifference
   markedOn p = pick (setsOn p) (firstAxis (p ∷ ps) ++ marked) marked
 
   abbrev pub sinceOn : OverAxes → ℕ
@@ -147,7 +147,7 @@ module _ (k : ℕ) (nonLatched : Bool) (hold : ℕ) (ps : List OverAxes) (marked
       go false true = refl
       go false false = refl
 
-  over-next : (a : Axis) (axes : List Axis)
+  over-next : (a : AxisDifference) (axes : List AxisDifference)
       → afterOver n (2 ^ (a .place)) (ltZ (a .difference) (pos 0)) hold (motionBy n nonLatched hold ps marked since)
       ≡ motionBy n nonLatched hold ((a ∷ axes) ∷ ps) (markedOn (a ∷ axes)) (sinceOn (a ∷ axes))
   unfolding afterOver isSetBy

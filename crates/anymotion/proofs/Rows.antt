@@ -10,7 +10,7 @@ use Rattle.codes.specs.Range.{rangeOf}
 use Rattle.codes.specs.Latch.{latchOf}
 use Rattle.codes.specs.Mode.{modeOf}
 use Rattle.codes.specs.Axes.{axesOf}
-use Rattle.table.specs.Rows.{listed, reservedAddresses, lineOf, refusedBits, rowOf, rowAt, resetBytes}
+use Rattle.table.specs.Rows.{listed, reservedAddresses, paperLineOf, refusedBits, rowOf, rowAt, resetBytes}
 use Rattle.registers.specs.Refused.{reservedCode, notModelled, answerAt, readAnswer}
 use Rattle.registers.specs.Deeds.{deedsOf, judgement}
 use Rattle.fifo.specs.Flat.{flatPushed, flatRead, bytesRead}
@@ -23,7 +23,7 @@ use Rattle.slopes.specs.Runs.{overRun, calmRun}
 use Rattle.motion.specs.Detector.{afterOver, afterCalm, afterSample, restarted}
 use Rattle.detectors.specs.Detectors.{detectorsSampled, detectorsWritten}
 use Rattle.interrupts.specs.Statuses.{statusesOf}
-use Rattle.interrupts.specs.Lines.{statusByte}
+use Rattle.interrupts.specs.Maps.{statusByte}
 use Rattle.device.specs.Device as device
 use Rattle.device.specs.Device.{firstBytes}
 use Rattle.device.specs.Show.{shownByte}
@@ -31,7 +31,7 @@ use Rattle.device.specs.Read.{byteFrom, afterSingles, singleBytes, readOf}
 use Rattle.device.specs.Write.{written, writeOf}
 use Rattle.device.specs.Sample.{sampleAnswer, afterAccepted, sampleOf}
 use Rattle.events.specs.Event.{Event, write, read, sample, Given}
-use Rattle.events.specs.Run.{told}
+use Rattle.events.specs.Run.{allGiven}
 
 -- a sample of x alone, and a read of 0x09 after it
 abbrev x : ℕ → List Event
@@ -48,11 +48,11 @@ readBytes (g ∷ gs) = g .bytes ++ readBytes gs
 
 -- set at the Nth over point and not before, cleared at the Nth calm point and not before: N is 1, 2, 3 and 4
 in-a-row :
-    map (λ byte. readBytes (told device.powerUp (script byte))) (0 ∷ 1 ∷ 2 ∷ 3 ∷ [])
+    map (λ byte. readBytes (allGiven device.powerUp (script byte))) (0 ∷ 1 ∷ 2 ∷ 3 ∷ [])
     ≡ (0 ∷ 4 ∷ 4 ∷ 4 ∷ 4 ∷ 0 ∷ 0 ∷ 0 ∷ 0 ∷ [])
     ∷ (0 ∷ 0 ∷ 4 ∷ 4 ∷ 4 ∷ 4 ∷ 0 ∷ 0 ∷ 0 ∷ [])
     ∷ (0 ∷ 0 ∷ 0 ∷ 4 ∷ 4 ∷ 4 ∷ 4 ∷ 0 ∷ 0 ∷ [])
     ∷ (0 ∷ 0 ∷ 0 ∷ 0 ∷ 4 ∷ 4 ∷ 4 ∷ 4 ∷ 0 ∷ [])
     ∷ []
-unfolding bit zeros firstOrZeros movedForward rangeOf latchOf modeOf axesOf listed reservedAddresses lineOf refusedBits rowOf rowAt resetBytes reservedCode notModelled answerAt readAnswer deedsOf judgement flatPushed flatRead bytesRead pushedIn readIn bytesIn countIn noFrames code byteAt afterRead slopesTo firstOver pointOf overRun calmRun afterOver afterCalm afterSample restarted detectorsSampled detectorsWritten statusesOf statusByte device.powerUp firstBytes shownByte byteFrom afterSingles singleBytes readOf written writeOf sampleAnswer afterAccepted sampleOf
+unfolding bit zeros firstOrZeros movedForward rangeOf latchOf modeOf axesOf listed reservedAddresses paperLineOf refusedBits rowOf rowAt resetBytes reservedCode notModelled answerAt readAnswer deedsOf judgement flatPushed flatRead bytesRead pushedIn readIn bytesIn countIn noFrames code byteAt afterRead slopesTo firstOver pointOf overRun calmRun afterOver afterCalm afterSample restarted detectorsSampled detectorsWritten statusesOf statusByte device.powerUp firstBytes shownByte byteFrom afterSingles singleBytes readOf written writeOf sampleAnswer afterAccepted sampleOf
 in-a-row = refl

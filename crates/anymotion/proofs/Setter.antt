@@ -9,9 +9,9 @@ use lib.ListN.{take, drop, take-append-drop}
 use Rattle.laws.specs.Choice.{pick, both}
 use Rattle.events.specs.Event.{Event, bytes}
 use Rattle.anymotion.specs.InForce.{inForce, pointsAsked, isNonLatched, restarts, brings}
-use Rattle.anymotion.specs.Points.{Axis, OverAxes, samples, pointAt}
+use Rattle.anymotion.specs.Points.{AxisDifference, OverAxes, samples, pointAt}
 use Rattle.anymotion.specs.Status.{isOver, isCalm, lastAre, isSetBy, points, isSet, expires, InRow, CameInRow}
-use Rattle.anymotion.specs.Marks.{firstAxis, markOf, signOf, markedAxes, marksByte, SetAt, marksAt}
+use Rattle.anymotion.specs.Marks.{firstAxis, markOf, signOf, markedAxes, marksByte, SetAt, marksByteAt}
 use Rattle.anymotion.proofs.Split.{taken-many, taken-all, none-in-none, further, front-or-within, last-longer, set-when}
 use Rattle.anymotion.proofs.Points.{OneOrNone, one-or-none}
 use Rattle.anymotion.proofs.Detector.{lessOne, asked-is, latch-kept, points-kept, marked-kept, first-unset, expiry-clears}
@@ -110,13 +110,13 @@ module _ (k : ℕ) (nonLatched : Bool) where
 
 -- ---- after a history
 -- the same mark and sign
-abbrev Alike : List Axis → List Axis → Type 0
+abbrev Alike : List AxisDifference → List AxisDifference → Type 0
 Alike l m = (markOf l ≡ markOf m) × (signOf l ≡ signOf m)
 
 abbrev setterAfter : List Event → OverAxes
 setterAfter es = setter (lessOne es) (isNonLatched es) (points es)
 
-module _ (k : ℕ) (nonLatched : Bool) (ps : List OverAxes) (marked : List Axis) where
+module _ (k : ℕ) (nonLatched : Bool) (ps : List OverAxes) (marked : List AxisDifference) where
   first-marked : (p : OverAxes) → isSetBy (suc k) nonLatched (p ∷ ps) ≡ true → isSetBy (suc k) nonLatched ps ≡ false → Alike (firstAxis (p ∷ ps) ++ marked) p
   unfolding isSetBy
   first-marked [] h e = go (both nonLatched (lastAre isCalm k ps)) (rw e at h)
@@ -177,7 +177,7 @@ module _ (es : List Event) where
   set-at h = rw (asked-is es) (found (lessOne es) (isNonLatched es) (points es) (rw (asked-is es) at (shown es (isSet es) .0 (rw reads-status at h))))
 
   -- and 0x0B marks that point
-  pub marks-of-setter : (s : SetAt (pointsAsked es) (isNonLatched es) (points es)) → reads es 0x0B ≡ bytes (marksAt (s .point) ∷ [])
+  pub marks-of-setter : (s : SetAt (pointsAsked es) (isNonLatched es) (points es)) → reads es 0x0B ≡ bytes (marksByteAt (s .point) ∷ [])
   unfolding marksByte
   marks-of-setter = rw (asked-is es) (λ s. reads-marks es ∙ marked s)
     where
@@ -187,5 +187,5 @@ module _ (es : List Event) where
       is : (s : SetAt (suc (lessOne es)) (isNonLatched es) (points es)) → setterAfter es ≡ s .point
       is s = rw (s .split) (only (lessOne es) (isNonLatched es) (s .point) (s .earlier) (s .row) (s .before) (s .later) (s .since))
 
-      marked : (s : SetAt (suc (lessOne es)) (isNonLatched es) (points es)) → bytes (marksByte es ∷ []) ≡ bytes (marksAt (s .point) ∷ [])
+      marked : (s : SetAt (suc (lessOne es)) (isNonLatched es) (points es)) → bytes (marksByte es ∷ []) ≡ bytes (marksByteAt (s .point) ∷ [])
       marked s = let m = marked-all es (set s) in rw (set s, m .0, m .1, is s)

@@ -29,7 +29,7 @@ use Rattle.events.specs.Bank.{bank}
 use Rattle.events.proofs.Runs.{bank-length}
 use Rattle.rules.specs.Proper.{isStored, spared}
 use Rattle.rules.proofs.Writes.{byte-written}
-use Rattle.anymotion.specs.InForce.{inForce, isTaken, meansNonLatched, meansLatched, timeOfCode, meansTime, isNonLatched, isLatched, timeAsked, clearing, restarts, forgetting, fits}
+use Rattle.anymotion.specs.InForce.{inForce, isAccepted, meansNonLatched, meansLatched, timeOfCode, meansTime, isNonLatched, isLatched, timeAsked, clearing, restarts, forgetting, fits}
 use Rattle.anymotion.specs.Points.{anyEnabled}
 
 -- ---- 0x21
@@ -112,21 +112,21 @@ sample-taken x y z = rw (in-range x, in-range y, in-range z) (go (fits x) (fits 
 
 -- ---- writes
 module _ (es : List Event) (a byte : ℕ) where
-  of-deeds : (f : Deeds → Bool) → f (judgement (bank es) a byte .deeds) ≡ pick (isTaken es a byte) (f (deedsOf (bank es) (rowAt a) a byte)) (f noDeeds)
+  of-deeds : (f : Deeds → Bool) → f (judgement (bank es) a byte .deeds) ≡ pick (isAccepted es a byte) (f (deedsOf (bank es) (rowAt a) a byte)) (f noDeeds)
   unfolding judgement
-  of-deeds f = of-pick f (isTaken es a byte) (deedsOf (bank es) (rowAt a) a byte) noDeeds
+  of-deeds f = of-pick f (isAccepted es a byte) (deedsOf (bank es) (rowAt a) a byte) noDeeds
 
   both-is : (t s : Bool) → pick t s false ≡ both t s
   both-is true s = refl
   both-is false s = refl
 
-  pub restarts-is : judgement (bank es) a byte .deeds .restarts ≡ both (isTaken es a byte) (isIn clearing a)
+  pub restarts-is : judgement (bank es) a byte .deeds .restarts ≡ both (isAccepted es a byte) (isIn clearing a)
   unfolding deedsOf
-  restarts-is = of-deeds (λ d. d .restarts) ∙ both-is (isTaken es a byte) (isIn restarting a)
+  restarts-is = of-deeds (λ d. d .restarts) ∙ both-is (isAccepted es a byte) (isIn restarting a)
 
-  pub forgets-is : judgement (bank es) a byte .deeds .forgets ≡ both (isTaken es a byte) (isIn forgetting a)
+  pub forgets-is : judgement (bank es) a byte .deeds .forgets ≡ both (isAccepted es a byte) (isIn forgetting a)
   unfolding deedsOf
-  forgets-is = of-deeds (λ d. d .forgets) ∙ both-is (isTaken es a byte) (eqb a 0x0F) ∙ ap (λ (t : Bool). both (isTaken es a byte) t) (or-none (eqb a 0x0F))
+  forgets-is = of-deeds (λ d. d .forgets) ∙ both-is (isAccepted es a byte) (eqb a 0x0F) ∙ ap (λ (t : Bool). both (isAccepted es a byte) t) (or-none (eqb a 0x0F))
     where
       or-none : (t : Bool) → t ≡ either t false
       or-none true = refl
@@ -139,12 +139,12 @@ in-force-kept es powerUp h c m = let z : _≡_ {A = ℕ} 0 1 = cc in absurd (ome
 in-force-kept es (write a byte) h c m =
     byte-written (bank es) (bank-length es) c a byte ∙ go (isReset a byte) refl (both (isStored (bank es) a byte) (eqb c a)) refl h
   where
-    go : (r : Bool) → isReset a byte ≡ r → (s : Bool) → both (isStored (bank es) a byte) (eqb c a) ≡ s → either r (both (isTaken es a byte) (isIn clearing a)) ≡ false
+    go : (r : Bool) → isReset a byte ≡ r → (s : Bool) → both (isStored (bank es) a byte) (eqb c a) ≡ s → either r (both (isAccepted es a byte) (isIn clearing a)) ≡ false
         → pick r (pick (isIn spared c) (inForce es c) (getD firstBytes c 0)) (pick s (merged (rowAt a) byte) (inForce es c)) ≡ inForce es c
     go true f s g h = cc
     go false f true g h =
         let own : c ≡ a = eqb-true c a (right (isStored (bank es) a byte) (eqb c a) g) in
-        let ok : isTaken es a byte ≡ true = left (isTaken es a byte) _ (left (isStored (bank es) a byte) (eqb c a) g) in
+        let ok : isAccepted es a byte ≡ true = left (isAccepted es a byte) _ (left (isStored (bank es) a byte) (eqb c a) g) in
         let n : isIn clearing c ≡ false = rw own (rw ok at h) in
         cc
     go false f false g h = refl

@@ -15,7 +15,7 @@ use Rattle.laws.proofs.Finite.{left}
 use Rattle.laws.proofs.Ints.{sub-size}
 use Rattle.laws.specs.Lists.{isIn}
 use Rattle.events.specs.Event.{Event, powerUp, write, read, sample, cycle, clock}
-use Rattle.anymotion.specs.InForce.{isTaken, isNonLatched, startsAnew, restarts, forgets, fits}
+use Rattle.anymotion.specs.InForce.{isAccepted, isNonLatched, startsAnew, restarts, forgets, fits}
 use Rattle.anymotion.specs.Points.{pointAt}
 use Rattle.anymotion.specs.Status.{isCalm, lastAre, isSetBy, points, isSet, sets, expires}
 use Rattle.anymotion.specs.Marks.{markedAxes, marksByte}
@@ -34,7 +34,7 @@ difference-bounds old new p q = let a = small old p in let b = small new q in om
 forgets-restarts : (es : List Event) (e : Event) → forgets es e ≡ true → restarts es e ≡ true
 unfolding forgets restarts
 forgets-restarts es powerUp h = refl
-forgets-restarts es (write a byte) h = go (startsAnew (write a byte)) (isTaken es a byte) (eqb a 0x0F) (isIn (0x16 ∷ 0x21 ∷ 0x27 ∷ 0x28 ∷ []) a) h
+forgets-restarts es (write a byte) h = go (startsAnew (write a byte)) (isAccepted es a byte) (eqb a 0x0F) (isIn (0x16 ∷ 0x21 ∷ 0x27 ∷ 0x28 ∷ []) a) h
   where
     go : (t s u v : Bool) → either t (both s (either u false)) ≡ true → either t (both s (either u v)) ≡ true
     go true s u v h = refl

@@ -20,8 +20,8 @@ use Rattle.events.specs.Bank.{bank, stored}
 abbrev pub inForce : List Event → ℕ → ℕ
 inForce es a = stored es a
 
-abbrev pub isTaken : List Event → ℕ → ℕ → Bool
-isTaken es a byte = accepted (writeAnswer (bank es) a byte)
+abbrev pub isAccepted : List Event → ℕ → ℕ → Bool
+isAccepted es a byte = accepted (writeAnswer (bank es) a byte)
 
 -- "N is 0x27 bits 1:0 plus 1"
 abbrev pub pointsAsked : List Event → ℕ
@@ -71,8 +71,8 @@ timeAsked es = meansTime (inForce es 0x21)
 
 -- ---- writes
 -- an accepted write to one of these addresses, after es
-abbrev pub isTakenAt : List ℕ → List Event → Event → Bool
-isTakenAt addresses es e = atWrite false (λ a byte. both (isTaken es a byte) (isIn addresses a)) e
+abbrev pub isAcceptedAt : List ℕ → List Event → Event → Bool
+isAcceptedAt addresses es e = atWrite false (λ a byte. both (isAccepted es a byte) (isIn addresses a)) e
 
 -- power-up, and "14: 0xB6 is a soft reset: everything as at power-up"
 abbrev pub startsAnew : Event → Bool
@@ -83,14 +83,14 @@ abbrev pub clearing : List ℕ
 clearing = 0x0F ∷ 0x16 ∷ 0x21 ∷ 0x27 ∷ 0x28 ∷ []
 
 unfoldable pub restarts : List Event → Event → Bool
-restarts es e = either (startsAnew e) (isTakenAt clearing es e)
+restarts es e = either (startsAnew e) (isAcceptedAt clearing es e)
 
 -- "0x0F also forgets the previous sample"
 abbrev pub forgetting : List ℕ
 forgetting = 0x0F ∷ []
 
 unfoldable pub forgets : List Event → Event → Bool
-forgets es e = either (startsAnew e) (isTakenAt forgetting es e)
+forgets es e = either (startsAnew e) (isAcceptedAt forgetting es e)
 
 -- ---- samples
 pub record Signed : Type 0 where

@@ -9,27 +9,27 @@ use Rattle.laws.specs.Choice.{pick}
 use Rattle.laws.specs.Bits.{worth}
 use Rattle.events.specs.Event.{Event}
 use Rattle.anymotion.specs.InForce.{startsAnew}
-use Rattle.anymotion.specs.Points.{Axis, OverAxes}
+use Rattle.anymotion.specs.Points.{AxisDifference, OverAxes}
 use Rattle.anymotion.specs.Status.{isOver, isCalm, lastAre, points, isSet, sets, InRow, CameInRow}
 
 -- "the first over axis (x before y before z)" at the latest point
-abbrev pub firstAxis : List OverAxes → List Axis
+abbrev pub firstAxis : List OverAxes → List AxisDifference
 firstAxis [] = []
 firstAxis ([] ∷ ps) = []
 firstAxis ((a ∷ axes) ∷ ps) = a ∷ []
 
 -- the axes that were marked on the settings since power-up or soft reset, the latest first
-unfoldable pub markedAxes : List Event → List Axis
+unfoldable pub markedAxes : List Event → List AxisDifference
 markedAxes [] = []
 markedAxes (e ∷ es) = pick (startsAnew e) [] (pick (sets es e) (firstAxis (points (e ∷ es)) ++ markedAxes es) (markedAxes es))
 
 -- "0x0B bits 2:0 (z, y, x) mark" the latest of them
-abbrev pub markOf : List Axis → ℕ
+abbrev pub markOf : List AxisDifference → ℕ
 markOf [] = 0
 markOf (a ∷ axes) = 2 ^ (a .place)
 
 -- "bit 3 is 1 for a negative difference"
-abbrev pub signOf : List Axis → Bool
+abbrev pub signOf : List AxisDifference → Bool
 signOf [] = false
 signOf (a ∷ axes) = ltZ (a .difference) (pos 0)
 
@@ -49,5 +49,5 @@ pub record SetAt (n : ℕ) (nonLatched : Bool) (ps : List OverAxes) : Type 0 whe
   pub since : nonLatched ≡ true → ¬ InRow isCalm n later
 
 -- the byte that marks it
-abbrev pub marksAt : OverAxes → ℕ
-marksAt point = markOf point + worth 8 (signOf point)
+abbrev pub marksByteAt : OverAxes → ℕ
+marksByteAt point = markOf point + worth 8 (signOf point)

@@ -16,30 +16,30 @@ samples [] = []
 samples (e ∷ es) = pick (forgets es e) [] (brings e ++ samples es)
 
 -- an axis between two samples in a row: its bit in 0x16 and in 0x0B, "bits 2:0 (z, y, x)", and the difference
-pub record Axis : Type 0 where
+pub record AxisDifference : Type 0 where
   pub place : ℕ
   pub difference : ℤ
 
-abbrev axis : ℕ → ℤ → Axis
+abbrev axis : ℕ → ℤ → AxisDifference
 axis place difference = record { place = place; difference = difference }
 
 -- "the difference of two signed samples in a row", of the earlier and the later; "x before y before z"
-abbrev pub axesBetween : Signed → Signed → List Axis
+abbrev pub axesBetween : Signed → Signed → List AxisDifference
 axesBetween old new = axis 0 (new .x -ℤ old .x) ∷ axis 1 (new .y -ℤ old .y) ∷ axis 2 (new .z -ℤ old .z) ∷ []
 
 -- by the bytes of 0x16 and 0x28: "some axis enabled in 0x16 bits 2:0 (z, y, x) has slope above 4 times 0x28"; the difference's "size is
 -- the slope"
-abbrev pub isAbove : ℕ → ℕ → Axis → Bool
+abbrev pub isAbove : ℕ → ℕ → AxisDifference → Bool
 isAbove enabled threshold a = both (bit (a .place) enabled) (ltb (4 * threshold) (natAbs (a .difference)))
 
 -- those among axes
-abbrev pub aboveAmong : ℕ → ℕ → List Axis → List Axis
+abbrev pub aboveAmong : ℕ → ℕ → List AxisDifference → List AxisDifference
 aboveAmong enabled threshold [] = []
 aboveAmong enabled threshold (a ∷ axes) = pick (isAbove enabled threshold a) (a ∷ aboveAmong enabled threshold axes) (aboveAmong enabled threshold axes)
 
 -- a point: the axes that are over at it, in their order; it is calm where there are none
 abbrev pub OverAxes : Type 0
-OverAxes = List Axis
+OverAxes = List AxisDifference
 
 -- of the byte of 0x16: not "no axis is enabled"
 abbrev pub anyEnabled : ℕ → Bool

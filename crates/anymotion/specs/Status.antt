@@ -42,14 +42,14 @@ isSetBy n nonLatched (p ∷ ps) =
 abbrev pub isSetOn : List Event → List OverAxes → Bool
 isSetOn es ps = isSetBy (pointsAsked es) (isNonLatched es) ps
 
--- ---- what is seen in looking back on a history: the points since the last restart or expiry, the latest first, and "the clock since its
+-- ---- the look back on a history: the points since the last restart or expiry, the latest first, and "the clock since its
 -- setting", in microseconds, of the status that was set last
-pub record Seen : Type 0 where
+pub record LookBack : Type 0 where
   pub points : List OverAxes
   pub clock : ℕ
 
--- an event e after a history es, in which so much was seen
-module _ (es : List Event) (e : Event) (before : Seen) where
+-- an event e after a history es, of which this is the look back
+module _ (es : List Event) (e : Event) (before : LookBack) where
   -- Q-4: "when the clock since its setting reaches that time", of a status that is held for a time
   abbrev pub timeReached : Bool
   timeReached = both (isSetOn es (before .points)) (both (leb 1 (timeAsked es)) (leb (timeAsked es) (before .clock + passing e)))
@@ -63,15 +63,15 @@ module _ (es : List Event) (e : Event) (before : Seen) where
   abbrev pub clockNext : ℕ
   clockNext = pick (both (not (isSetOn es (before .points))) (isSetOn (e ∷ es) pointsNext)) 0 (before .clock + passing e)
 
-unfoldable pub seen : List Event → Seen
-seen [] = record { points = []; clock = 0 }
-seen (e ∷ es) = record { points = pointsNext es e (seen es); clock = clockNext es e (seen es) }
+unfoldable pub lookBack : List Event → LookBack
+lookBack [] = record { points = []; clock = 0 }
+lookBack (e ∷ es) = record { points = pointsNext es e (lookBack es); clock = clockNext es e (lookBack es) }
 
 abbrev pub points : List Event → List OverAxes
-points es = seen es .points
+points es = lookBack es .points
 
 abbrev pub clockSince : List Event → ℕ
-clockSince es = seen es .clock
+clockSince es = lookBack es .clock
 
 abbrev pub isSet : List Event → Bool
 isSet es = isSetOn es (points es)
@@ -82,7 +82,7 @@ sets es e = both (not (isSet es)) (isSet (e ∷ es))
 
 -- at the event e the status expires
 unfoldable pub expires : List Event → Event → Bool
-expires es e = timeReached es e (seen es)
+expires es e = timeReached es e (lookBack es)
 
 -- ---- the same in one sentence
 -- among the points there are n in a row that are all so, with these later and these earlier than they

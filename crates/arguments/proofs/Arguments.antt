@@ -20,7 +20,7 @@ use Rattle.text.specs.Text.{ascii, value, valueOn, decimal, mostDigits}
 use Rattle.text.proofs.Numerals.{value-decimal, wide-enough, digits-only, decimal-zero, no-zero-first}
 use Rattle.answers.specs.declared.Asked.{Asked}
 use Rattle.answers.specs.declared.Asked.the-variants.{Stretches, Modes, Samples, Between, Whole}
-use Rattle.arguments.specs.Words.{isDigit, areDigits, limit, numberOf, sameWord, byWord, betweenOf, wantedOf, pinsOf}
+use Rattle.arguments.specs.Words.{isDigit, areDigits, limit, numberOf, sameWord, byWord, betweenOf, wantedOf, pinsWantedOf}
 use Rattle.arguments.specs.Arguments.{placeValue, Numeral, Asks, AnswerAsked, AsksPins, ReplayAsked}
 use Rattle.arguments.specs.declared.Number.{Number}
 use Rattle.arguments.specs.declared.Number.the-variants.{No, Is}
@@ -177,8 +177,8 @@ module _ (count : ℕ) (first : List ℕ) where
   PinWordsOf (pins.Of withPins) = AsksPins count first withPins
 
   -- nothing is asked for by other words, and both by these
-  pub pins-words : PinWordsOf (pinsOf count first)
-  unfolding pinsOf
+  pub pins-words : PinWordsOf (pinsWantedOf count first)
+  unfolding pinsWantedOf
   pins-words = go (eqb count 1) (eqb count 2) (sameWord first (ascii "pins")) refl refl refl
     where
       go : (s t u : Bool) → eqb count 1 ≡ s → eqb count 2 ≡ t → sameWord first (ascii "pins") ≡ u
@@ -188,21 +188,21 @@ module _ (count : ℕ) (first : List ℕ) where
       go false true false p q r = tt
       go false false u p q r = tt
 
-  pub words-pins : (withPins : Bool) → AsksPins count first withPins → pinsOf count first ≡ pins.Of withPins
-  unfolding pinsOf sameWord
+  pub words-pins : (withPins : Bool) → AsksPins count first withPins → pinsWantedOf count first ≡ pins.Of withPins
+  unfolding pinsWantedOf sameWord
   words-pins false e = rw (eq-eqb count 1 e)
   words-pins true (e, w) = rw (ne-eqb count 1 (λ z. omega (arith, e, z)), eq-eqb count 2 e, w)
 
-  pub pins-exactly : ReplayAsked count first (pinsOf count first)
+  pub pins-exactly : ReplayAsked count first (pinsWantedOf count first)
   pins-exactly = record {
     asked = λ a. (λ e. rw e at pins-words, words-pins a);
     wrong = (
       λ e a h. let z = sym e ∙ words-pins a h in let y : _≡_ {A = ℕ} 0 1 = cc in absurd (omega arith),
-      λ none. go none (pinsOf count first) refl,
+      λ none. go none (pinsWantedOf count first) refl,
     );
   }
     where
-      go : ((a : Bool) → ¬ AsksPins count first a) → (w : PinsWanted) → pinsOf count first ≡ w → w ≡ pins.Wrong
+      go : ((a : Bool) → ¬ AsksPins count first a) → (w : PinsWanted) → pinsWantedOf count first ≡ w → w ≡ pins.Wrong
       go none pins.Wrong e = refl
       go none (pins.Of a) e = absurd (none a (rw e at pins-words))
 

@@ -5,7 +5,7 @@ use mathlib.Core.List.{[]}
 use mathlib.Core.Path.{_≡_, refl}
 use Rattle.text.specs.Text.{ascii}
 use Rattle.answers.specs.declared.Asked.the-variants.{Stretches, Modes, Samples, Between, Whole}
-use Rattle.arguments.specs.Words.{numberOf, sameWord, byWord, wantedOf, pinsOf}
+use Rattle.arguments.specs.Words.{numberOf, sameWord, byWord, wantedOf, pinsWantedOf}
 use Rattle.arguments.specs.declared.Number.the-variants.{No, Is}
 use Rattle.arguments.specs.declared.Wanted.the-variants.{Wrong, Of}
 use Rattle.arguments.specs.declared.PinsWanted.the-variants as pins
@@ -71,18 +71,18 @@ unfolding numberOf
 too-large = refl
 
 -- of the replay: no word asks for no pins, `pins` for them, and no other word for either
-pub plain-replay : pinsOf 1 [] ≡ pins.Of false
-unfolding pinsOf
+pub plain-replay : pinsWantedOf 1 [] ≡ pins.Of false
+unfolding pinsWantedOf
 plain-replay = refl
 
-pub pins-too : pinsOf 2 (ascii "pins") ≡ pins.Of true
-unfolding pinsOf sameWord
+pub pins-too : pinsWantedOf 2 (ascii "pins") ≡ pins.Of true
+unfolding pinsWantedOf sameWord
 pins-too = refl
 
-pub another-pin : pinsOf 2 (ascii "pin") ≡ pins.Wrong
-unfolding pinsOf sameWord
+pub another-pin : pinsWantedOf 2 (ascii "pin") ≡ pins.Wrong
+unfolding pinsWantedOf sameWord
 another-pin = refl
 
-pub two-words : pinsOf 3 (ascii "pins") ≡ pins.Wrong
-unfolding pinsOf
+pub two-words : pinsWantedOf 3 (ascii "pins") ≡ pins.Wrong
+unfolding pinsWantedOf
 two-words = refl

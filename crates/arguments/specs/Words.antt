@@ -63,7 +63,7 @@ wantedOf count first second =
     (pick (eqb count 3) (betweenOf (numberOf first) (numberOf second)) Wrong))
 
 -- of the replay: none behind the program's name, or `pins`; and nothing else
-unfoldable pub pinsOf : ℕ → List ℕ → PinsWanted
-pinsOf count first =
+unfoldable pub pinsWantedOf : ℕ → List ℕ → PinsWanted
+pinsWantedOf count first =
     pick (eqb count 1) (pins.Of false)
     (pick (eqb count 2) (pick (sameWord first (ascii "pins")) (pins.Of true) pins.Wrong) pins.Wrong)

@@ -1,7 +1,7 @@
 // What the words behind a program's name ask for. What is not asked for in so many words is not asked for.
 ghost use mathlib.Core.Path.{_≡_};
 ghost use Rattle.text.specs.Text.{ascii};
-ghost use Rattle.arguments.specs.Words.{withDigit, numberOf, sameWord, byWord, betweenOf, wantedOf, pinsOf};
+ghost use Rattle.arguments.specs.Words.{withDigit, numberOf, sameWord, byWord, betweenOf, wantedOf, pinsWantedOf};
 use answers::Asked;
 
 // The number that a word stands for, where it does.
@@ -135,7 +135,7 @@ fn is_pins(word: &[u8]) -> bool
 // Whether the pins are asked for behind every line of a replay: by so many words, of which the program's name is one, and by the one
 // behind it.
 pub fn pins_of(count: usize, first: &[u8]) -> PinsWanted
-    ensures { λ r. ⌜ r ≡ pinsOf count (now (first .entry)) ⌝ }
+    ensures { λ r. ⌜ r ≡ pinsWantedOf count (now (first .entry)) ⌝ }
 {
     if count == 1 {
         return PinsWanted::Of(false);

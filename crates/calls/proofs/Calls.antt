@@ -22,7 +22,7 @@ use Rattle.demand2.proofs.Demand2.{demand2, readout}
 use Rattle.demand2.proofs.Watermark.{watermark}
 use Rattle.twin.specs.Entry.{deviceIn, stepOf, lentAt}
 use Rattle.twin.specs.declared.Harness.{Harness}
-use Rattle.calls.specs.Calls.{Handed, Typed, Call, powersUp, hands, Seen, Leaves, Ran, no-more, on-power-up, on-event, eventFor, onto, eventsOnto, seenOf, allSeen, Served}
+use Rattle.calls.specs.Calls.{Handed, Typed, Call, powersUp, hands, Seen, Leaves, CallsMade, no-more, on-power-up, on-event, eventFor, eventOnto, eventsAskedOnto, seenOf, allSeen, Served}
 use Rattle.calls.proofs.Kind.{requested-is}
 use Rattle.calls.proofs.PinCodes.{pins-coded}
 
@@ -42,7 +42,7 @@ module _ (d : Device) (a : ℕ) (buffer : List ℕ) where
 -- what is seen, and the device behind it, of an event that may be asked for: a read has the buffer's length
 abbrev Stated : List Event → List ℕ → Option Event → Type 0
 Stated es buffer e =
-    (_≡_ {A = Seen} (record { number = stepOf (after es) e .number; buffer = lentAt (after es) e buffer }) (seenOf es e buffer)) × (stepOf (after es) e .device ≡ after (onto e es))
+    (_≡_ {A = Seen} (record { number = stepOf (after es) e .number; buffer = lentAt (after es) e buffer }) (seenOf es e buffer)) × (stepOf (after es) e .device ≡ after (eventOnto e es))
 
 with-buffer : {n : ℕ} {b b′ : List ℕ} → b ≡ b′ → _≡_ {A = Seen} (record { number = n; buffer = b }) (record { number = n; buffer = b′ })
 with-buffer {n} h = λ i. record { number = n; buffer = h i }
@@ -58,7 +58,7 @@ module _ (es : List Event) (c : Handed) where
       (picked (Stated es (c .buffer)) (eqb (c .kind) 5) (refl, refl) (refl, refl)))))
 
   -- whatever the contract allows is what the events say
-  pub call-leaves : {d d′ : Device} (s : Seen) → d ≡ after es → Leaves d c s d′ → (s ≡ seenOf es (eventFor c) (c .buffer)) × (d′ ≡ after (onto (eventFor c) es))
+  pub call-leaves : {d d′ : Device} (s : Seen) → d ≡ after es → Leaves d c s d′ → (s ≡ seenOf es (eventFor c) (c .buffer)) × (d′ ≡ after (eventOnto (eventFor c) es))
   call-leaves {d} {d′} s h p =
       let q : Leaves (after es) c s d′ = subst (λ (x : Device). Leaves x c s d′) h p in
       let r = requested-is c in (
@@ -67,20 +67,20 @@ module _ (es : List Event) (c : Handed) where
       )
 
   -- what it writes is a byte
-  call-writes : Typed c → ByteWrites es → ByteWrites (onto (eventFor c) es)
+  call-writes : Typed c → ByteWrites es → ByteWrites (eventOnto (eventFor c) es)
   call-writes t b =
-      let P : Option Event → Type 0 = λ e. ByteWrites (onto e es) in
+      let P : Option Event → Type 0 = λ e. ByteWrites (eventOnto e es) in
       picked P (eqb (c .kind) 1) (t .byte, b) (picked P (eqb (c .kind) 2) b (picked P (eqb (c .kind) 3) b (picked P (eqb (c .kind) 4) b (picked P (eqb (c .kind) 5) b b))))
 
 -- ---- a run
-run-is : (es : List Event) {h end : Harness} {cs : List Call} {ss : List Seen} → deviceIn h ≡ after es → ByteWrites es → Ran h cs ss end
-    → (ss ≡ allSeen es cs) × (deviceIn end ≡ after (eventsOnto es cs)) × ByteWrites (eventsOnto es cs)
+run-is : (es : List Event) {h end : Harness} {cs : List Call} {ss : List Seen} → deviceIn h ≡ after es → ByteWrites es → CallsMade h cs ss end
+    → (ss ≡ allSeen es cs) × (deviceIn end ≡ after (eventsAskedOnto es cs)) × ByteWrites (eventsAskedOnto es cs)
 unfolding after
 run-is es e b no-more = (refl, e, b)
 run-is es e b (on-power-up p later) = run-is (powerUp ∷ es) p b later
 run-is es e b (on-event {c = c} {s = s} t p later) =
     let one = call-leaves es c s e p in
-    let on = run-is (onto (eventFor c) es) (one .1) (call-writes es c t b) later in
+    let on = run-is (eventOnto (eventFor c) es) (one .1) (call-writes es c t b) later in
     (λ i. one .0 i ∷ on .0 i, on .1, on .2)
 
 -- ---- what the next call sees that reads
@@ -95,10 +95,10 @@ module _ (es : List Event) {d d′ : Device} (c : Handed) (s : Seen) (e : d ≡ 
       ∙ ap (λ (x : Given). record { number = x .number; buffer = pick (eqb (x .number) 0) (x .bytes) (c .buffer) }) g
 
 -- ---- power-up, and then any calls, on whatever record
-pub served : {h end : Harness} {cs : List Call} {ss : List Seen} → Ran h (powersUp ∷ cs) ss end → Served cs ss end
+pub served : {h end : Harness} {cs : List Call} {ss : List Seen} → CallsMade h (powersUp ∷ cs) ss end → Served cs ss end
 unfolding after
 served {cs = cs} (on-power-up p later) =
-    let es = eventsOnto [] cs in
+    let es = eventsAskedOnto [] cs in
     let r = run-is [] p tt later in
     let two = demand2 es (r .2) in
     record {

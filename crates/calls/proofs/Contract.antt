@@ -15,7 +15,7 @@ use denote.Triple.Entry.{Args, Vals, Res}
 use denote.RattleType.{owns}
 use denote.Shadow.{shadow, shows-shadow}
 use denote.Signature.{typesAt}
-use Rattle.laws.specs.Outcome.{Written, promised}
+use Rattle.laws.specs.Outcome.{SourceClauses, promised}
 use Rattle.device.specs.Device as device
 use Rattle.twin.specs.Entry.{deviceIn, pinsCode}
 use Rattle.twin.proofs.twin_4_proved_event as twin-event
@@ -39,14 +39,14 @@ handedBy κs a = record {
 abbrev pub seenAt : (κs : Lfts 2) → Res twin-event.signature κs → AtExit twin-event.ended κs → Seen
 seenAt κs r e = record { number = r; buffer = now (e .1 .1 .1 .1 .1 .1 .1 .0) }
 
-pub event-contract : _≡_ {A = Written twin-event.ended} (λ M. twin-event.clauses)
+pub event-contract : _≡_ {A = SourceClauses twin-event.ended} (λ M. twin-event.clauses)
     (promised twin-event.ended (λ κs a r e. Leaves (deviceIn (now (a .0))) (handedBy κs a) (seenAt κs r e) (deviceIn (now (e .0)))))
 event-contract = refl
 
-pub power-up-contract : _≡_ {A = Written twin-power-up.ended} (λ M. twin-power-up.clauses) (promised twin-power-up.ended (λ κs a r e. deviceIn (now (e .0)) ≡ device.powerUp))
+pub power-up-contract : _≡_ {A = SourceClauses twin-power-up.ended} (λ M. twin-power-up.clauses) (promised twin-power-up.ended (λ κs a r e. deviceIn (now (e .0)) ≡ device.powerUp))
 power-up-contract = refl
 
-pub pins-contract : _≡_ {A = Written twin-pins.ended} (λ M. twin-pins.clauses) (promised twin-pins.ended (λ κs a r e. r ≡ pinsCode (deviceIn (now (a .0)))))
+pub pins-contract : _≡_ {A = SourceClauses twin-pins.ended} (λ M. twin-pins.clauses) (promised twin-pins.ended (λ κs a r e. r ≡ pinsCode (deviceIn (now (a .0)))))
 pins-contract = refl
 
 -- ---- what a u8 is: whoever calls twin_event owns its arguments, and in every model of the logic that tells this of them

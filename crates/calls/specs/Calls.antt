@@ -73,11 +73,11 @@ Leaves d c s d′ =
 
 -- calls one after the other, the first first, each on the record that the one before left: from the record before them, what is seen, and
 -- the record at the end
-pub data Ran : Harness → List Call → List Seen → Harness → Type 0 where
-  no-more : {h : Harness} → Ran h [] [] h
-  on-power-up : {h h′ end : Harness} {cs : List Call} {ss : List Seen} → deviceIn h′ ≡ device.powerUp → Ran h′ cs ss end → Ran h (powersUp ∷ cs) ss end
+pub data CallsMade : Harness → List Call → List Seen → Harness → Type 0 where
+  no-more : {h : Harness} → CallsMade h [] [] h
+  on-power-up : {h h′ end : Harness} {cs : List Call} {ss : List Seen} → deviceIn h′ ≡ device.powerUp → CallsMade h′ cs ss end → CallsMade h (powersUp ∷ cs) ss end
   on-event : {h h′ end : Harness} {c : Handed} {s : Seen} {cs : List Call} {ss : List Seen}
-      → Typed c → Leaves (deviceIn h) c s (deviceIn h′) → Ran h′ cs ss end → Ran h (hands c ∷ cs) (s ∷ ss) end
+      → Typed c → Leaves (deviceIn h) c s (deviceIn h′) → CallsMade h′ cs ss end → CallsMade h (hands c ∷ cs) (s ∷ ss) end
 
 -- ---- the same, from the events
 -- "1 write (address, byte; ..), 2 read (address, count; ..), 3 sample (x, y, z .., temperature; ..), 4 cycle start", and Q-4's "log kind 5". A
@@ -94,18 +94,18 @@ eventFor c =
     none (c .kind)
 
 -- the history when a call has come behind it, and when many have
-abbrev pub onto : Option Event → List Event → List Event
-onto (some e) es = e ∷ es
-onto none es = es
+abbrev pub eventOnto : Option Event → List Event → List Event
+eventOnto (some e) es = e ∷ es
+eventOnto none es = es
 
-abbrev pub eventsOnto : List Event → List Call → List Event
-eventsOnto es [] = es
-eventsOnto es (powersUp ∷ cs) = eventsOnto (powerUp ∷ es) cs
-eventsOnto es (hands c ∷ cs) = eventsOnto (onto (eventFor c) es) cs
+abbrev pub eventsAskedOnto : List Event → List Call → List Event
+eventsAskedOnto es [] = es
+eventsAskedOnto es (powersUp ∷ cs) = eventsAskedOnto (powerUp ∷ es) cs
+eventsAskedOnto es (hands c ∷ cs) = eventsAskedOnto (eventOnto (eventFor c) es) cs
 
 -- the events of calls from power-up
-abbrev pub eventsOf : List Call → List Event
-eventsOf = eventsOnto []
+abbrev pub eventsAsked : List Call → List Event
+eventsAsked = eventsAskedOnto []
 
 -- what is seen behind a history. Of an event its number and, where it is a read that is done, its bytes in the buffer; of none 8, "record
 -- length or kind wrong", and the buffer as it was
@@ -118,7 +118,7 @@ seenOf es none buffer = record { number = 8; buffer = buffer }
 abbrev pub allSeen : List Event → List Call → List Seen
 allSeen es [] = []
 allSeen es (powersUp ∷ cs) = allSeen (powerUp ∷ es) cs
-allSeen es (hands c ∷ cs) = seenOf es (eventFor c) (c .buffer) ∷ allSeen (onto (eventFor c) es) cs
+allSeen es (hands c ∷ cs) = seenOf es (eventFor c) (c .buffer) ∷ allSeen (eventOnto (eventFor c) es) cs
 
 -- ---- the pins in one byte: "TWIN_LOW = 0, TWIN_HIGH = 1, TWIN_RELEASED = 2", "that of INT1 plus 4 times that of INT2"
 pub record Coded (p : Pins) (code : ℕ) : Type 0 where
@@ -141,16 +141,16 @@ pub record OneCall (h : Harness) (c : Handed) (s : Seen) (h′ : Harness) : Type
 -- ---- power-up and then any calls, whatever the record held before: what was seen, and the record at the end
 pub record Served (cs : List Call) (ss : List Seen) (end : Harness) : Type 0 where
   pub seen : ss ≡ allSeen [] cs
-  pub is-after : deviceIn end ≡ after (eventsOf cs)
+  pub is-after : deviceIn end ≡ after (eventsAsked cs)
   -- what twin_pins gives then
-  pub pins : Coded (pinsOf (after (eventsOf cs))) (pinsCode (deviceIn end))
+  pub pins : Coded (pinsOf (after (eventsAsked cs))) (pinsCode (deviceIn end))
   -- what they write are bytes, so the demands hold with nothing asked of the caller
-  pub bytes : ByteWrites (eventsOf cs)
-  pub demand2 : Demand2 (eventsOf cs)
-  pub watermark : Watermark (eventsOf cs)
-  pub demand3 : Demand3Here twin (eventsOf cs)
+  pub bytes : ByteWrites (eventsAsked cs)
+  pub demand2 : Demand2 (eventsAsked cs)
+  pub watermark : Watermark (eventsAsked cs)
+  pub demand3 : Demand3Here twin (eventsAsked cs)
   -- demand 2 of the record itself: what a call that reads would see next, below 0x3F, and of the frames
   pub below : (c : Handed) (s : Seen) (h : Harness) → Leaves (deviceIn end) c s (deviceIn h) → c .kind ≡ 2 → isBurst (c .address) (length (c .buffer)) ≡ true
-      → s ≡ record { number = 0; buffer = ruledFrom (elsewhere (eventsOf cs)) (eventsOf cs) (c .address) (length (c .buffer)) }
+      → s ≡ record { number = 0; buffer = ruledFrom (elsewhere (eventsAsked cs)) (eventsAsked cs) (c .address) (length (c .buffer)) }
   pub frames : (c : Handed) (s : Seen) (h : Harness) → Leaves (deviceIn end) c s (deviceIn h) → c .kind ≡ 2 → c .address ≡ 0x3F → 1 ≤ length (c .buffer) → length (c .buffer) ≤ 192
-      → s ≡ record { number = 0; buffer = firstOrZeros (length (c .buffer)) (flat (heldOf (fates accelerometer (eventsOf cs)))) }
+      → s ≡ record { number = 0; buffer = firstOrZeros (length (c .buffer)) (flat (heldOf (fates accelerometer (eventsAsked cs)))) }

@@ -26,7 +26,7 @@ use Rattle.history.specs.Counts.{begun, heldAfter}
 use Rattle.history.specs.History.{accelerometer, readsOut, control, setting, frame, saysHere}
 use Rattle.history.proofs.Chip.{isCleared}
 use Rattle.history.proofs.Conserve.{demand3, lawful, over-clears-here}
-use Rattle.history.proofs.Told.{told}
+use Rattle.history.proofs.Holds.{holds-after}
 use Rattle.history.proofs.Whole.{next-held}
 use Rattle.rules.specs.Data.{isSample}
 use Rattle.rules.specs.Rules.{depthBy, dataStatus, fullStatus, watermarkStatus, ruled}
@@ -37,7 +37,7 @@ use Rattle.rules.proofs.Reading.{depth-is, in-order}
 use Rattle.rules.proofs.Registers.{registers}
 use Rattle.rules.proofs.Stored.{stored-is}
 use Rattle.demand2.specs.Demand2.{elsewhere}
-use Rattle.demand2.specs.Watermark.{seen, level, held, frameSize, Reaches, setUpAt, goesOn, goOn, arrived, asks, asked, Watermark}
+use Rattle.demand2.specs.Watermark.{watermarkBit, level, frameCount, frameSize, Reaches, setUpAt, goesOn, goOn, arrived, asks, framesAsked, Watermark}
 use Rattle.demand2.proofs.Demand2.{demand2, out}
 
 -- ---- tests and what they say
@@ -58,7 +58,7 @@ not-seen false h = refl
 
 -- ---- after any events
 module _ (es : List Event) (b : ByteWrites es) where
-  seen-is : seen es ≡ watermarkStatus (elsewhere es) es
+  seen-is : watermarkBit es ≡ watermarkStatus (elsewhere es) es
   unfolding ruled
   seen-is =
       let w = elsewhere es in
@@ -66,18 +66,18 @@ module _ (es : List Event) (b : ByteWrites es) where
       ∙ ap (bit 6) (sym (in-order (worth 128 (dataStatus w es)) (worth 64 (watermarkStatus w es)) (worth 32 (fullStatus w es))))
       ∙ data-apart (dataStatus w es) (watermarkStatus w es) (fullStatus w es) .1
 
-  reached-here : (seen es ≡ true) ↔ Reaches es 32 (held es)
+  reached-here : (watermarkBit es ≡ true) ↔ Reaches es 32 (frameCount es)
   unfolding elsewhere
-  reached-here = rw seen-is (tests (bit 6 (byteBy es 0x17)) (level es) 32 (held es))
+  reached-here = rw seen-is (tests (bit 6 (byteBy es 0x17)) (level es) 32 (frameCount es))
 
   -- "Depth is 32 in FIFO and STREAM, 1 in BYPASS"; "The held frames never exceed the depth"
   control-is : control es ≡ byteBy es 0x3E
-  control-is = sym (told es .regs .control) ∙ registers es controlAt ∙ stored-is es b controlAt (omega arith)
+  control-is = sym (holds-after es .regs .control) ∙ registers es controlAt ∙ stored-is es b controlAt (omega arith)
 
   deep : setting es .depth ≡ depthBy es
-  deep = depth-is (control es) (told es .mode) ∙ rw control-is
+  deep = depth-is (control es) (holds-after es .mode) ∙ rw control-is
 
-  few : held es ≤ depthBy es
+  few : frameCount es ≤ depthBy es
   few = omega (arith, demand3 es .demand .few, deep)
 
 -- ---- an event that leaves the settings alone
@@ -137,7 +137,7 @@ module _ (es : List Event) where
     same-setting : setting (e ∷ es) ≡ setting es
     same-setting = lawful .keeps es e (goes-on e on)
 
-    held-next : held (e ∷ es) ≡ pick (isSample e) (min (setting es .depth) (suc (held es))) (held es - asks (frameSize es) e)
+    held-next : frameCount (e ∷ es) ≡ pick (isSample e) (min (setting es .depth) (suc (frameCount es))) (frameCount es - asks (frameSize es) e)
     held-next =
         sym (over-clears-here (e ∷ es) .held)
         ∙ next-held accelerometer es e (saysHere es e) refl (setting es) same-setting
@@ -150,36 +150,36 @@ record Later (es later : List Event) : Type 0 where
   same : level (later ++ es) ≡ level es
   set : setting (later ++ es) ≡ setting es
   -- no more are gone than the readouts asked for
-  least : held es ≤ held (later ++ es) + asked (frameSize es) later
+  least : frameCount es ≤ frameCount (later ++ es) + framesAsked (frameSize es) later
   -- where they asked for none, all that the depth allows are held
-  many : asked (frameSize es) later ≡ 0 → held (later ++ es) ≡ min (setting es .depth) (held es + arrived later)
+  many : framesAsked (frameSize es) later ≡ 0 → frameCount (later ++ es) ≡ min (setting es .depth) (frameCount es + arrived later)
 
 module _ (es later : List Event) (i : Later es later) (e : Event) (on : goesOn e ≡ true) where
   abbrev h : List Event
   h = later ++ es
 
-  next-is : held (e ∷ h) ≡ pick (isSample e) (min (setting es .depth) (suc (held h))) (held h - asks (frameSize es) e)
-  next-is = held-next h e on ∙ ap (λ (s : Setting). pick (isSample e) (min (s .depth) (suc (held h))) (held h - asks (s .size) e)) (i .set)
+  next-is : frameCount (e ∷ h) ≡ pick (isSample e) (min (setting es .depth) (suc (frameCount h))) (frameCount h - asks (frameSize es) e)
+  next-is = held-next h e on ∙ ap (λ (s : Setting). pick (isSample e) (min (s .depth) (suc (frameCount h))) (frameCount h - asks (s .size) e)) (i .set)
 
-  fits : held h ≤ setting es .depth
+  fits : frameCount h ≤ setting es .depth
   fits = omega (arith, demand3 h .demand .few, ap (λ (s : Setting). s .depth) (i .set))
 
-  least-next : held es ≤ held (e ∷ h) + (asks (frameSize es) e + asked (frameSize es) later)
+  least-next : frameCount es ≤ frameCount (e ∷ h) + (asks (frameSize es) e + framesAsked (frameSize es) later)
   least-next = go (isSample e) next-is
     where
-      go : (t : Bool) → held (e ∷ h) ≡ pick t (min (setting es .depth) (suc (held h))) (held h - asks (frameSize es) e)
-          → held es ≤ held (e ∷ h) + (asks (frameSize es) e + asked (frameSize es) later)
+      go : (t : Bool) → frameCount (e ∷ h) ≡ pick t (min (setting es .depth) (suc (frameCount h))) (frameCount h - asks (frameSize es) e)
+          → frameCount es ≤ frameCount (e ∷ h) + (asks (frameSize es) e + framesAsked (frameSize es) later)
       go true q = omega (arith, q, i .least, fits)
       go false q = omega (arith, q, i .least)
 
-  many-next : asks (frameSize es) e + asked (frameSize es) later ≡ 0 → held (e ∷ h) ≡ min (setting es .depth) (held es + (worth 1 (isSample e) + arrived later))
+  many-next : asks (frameSize es) e + framesAsked (frameSize es) later ≡ 0 → frameCount (e ∷ h) ≡ min (setting es .depth) (frameCount es + (worth 1 (isSample e) + arrived later))
   many-next none =
       let m = i .many (omega arith) in
       go m (isSample e) next-is
     where
-      go : held h ≡ min (setting es .depth) (held es + arrived later) → (t : Bool)
-          → held (e ∷ h) ≡ pick t (min (setting es .depth) (suc (held h))) (held h - asks (frameSize es) e)
-          → held (e ∷ h) ≡ min (setting es .depth) (held es + (worth 1 t + arrived later))
+      go : frameCount h ≡ min (setting es .depth) (frameCount es + arrived later) → (t : Bool)
+          → frameCount (e ∷ h) ≡ pick t (min (setting es .depth) (suc (frameCount h))) (frameCount h - asks (frameSize es) e)
+          → frameCount (e ∷ h) ≡ min (setting es .depth) (frameCount es + (worth 1 t + arrived later))
       go m true q = omega (arith, q, m)
       go m false q = omega (arith, q, m, none)
 
@@ -214,12 +214,12 @@ depth-32 es = go (eqb (byteBy es 0x3E / 64) 0b00)
 
 module _ (es : List Event) (b : ByteWrites es) where
   module _ (later : List Event) (c : ByteWrites later) (on : goOn later ≡ true) where
-    seen-later : (seen (later ++ es) ≡ true) ↔ Reaches es 32 (held (later ++ es))
+    seen-later : (watermarkBit (later ++ es) ≡ true) ↔ Reaches es 32 (frameCount (later ++ es))
     seen-later =
         let i = later-is es later on in
         rw (i .enable, i .same) at (reached-here (later ++ es) (bytes-joined later es c b))
 
-    late-here : asked (frameSize es) later ≡ 0 → (seen (later ++ es) ≡ true) ↔ Reaches es (depthBy es) (held es + arrived later)
+    late-here : framesAsked (frameSize es) later ≡ 0 → (watermarkBit (later ++ es) ≡ true) ↔ Reaches es (depthBy es) (frameCount es + arrived later)
     late-here none =
         let m = later-is es later on .many none in
         let r = seen-later in (
@@ -227,26 +227,26 @@ module _ (es : List Event) (b : ByteWrites es) where
           λ p. r .1 (p .0, p .1, omega (arith, p .2, depth-32 es), omega (arith, p .2, p .3, m, deep es b)),
         )
 
-    lasts-here : level es + asked (frameSize es) later ≤ held es → seen es ≡ true → seen (later ++ es) ≡ true
+    lasts-here : level es + framesAsked (frameSize es) later ≤ frameCount es → watermarkBit es ≡ true → watermarkBit (later ++ es) ≡ true
     lasts-here enough s =
         let p = reached-here es b .0 s in
         seen-later .1 (p .0, p .1, p .2, omega (arith, enough, later-is es later on .least))
 
-  ends-here : (n : ℕ) → 1 ≤ n → n ≤ 192 → (seen (read 0x3F n ∷ es) ≡ true) ↔ Reaches es 32 (held es - begun (frameSize es) n)
+  ends-here : (n : ℕ) → 1 ≤ n → n ≤ 192 → (watermarkBit (read 0x3F n ∷ es) ≡ true) ↔ Reaches es 32 (frameCount es - begun (frameSize es) n)
   unfolding byteBy
   ends-here n some most =
-      let q : held (read 0x3F n ∷ es) ≡ held es - begun (frameSize es) n = held-next es (read 0x3F n) refl ∙ rw (out es n some most) in
+      let q : frameCount (read 0x3F n ∷ es) ≡ frameCount es - begun (frameSize es) n = held-next es (read 0x3F n) refl ∙ rw (out es n some most) in
       rw q at (reached-here (read 0x3F n ∷ es) b)
 
-  above-here : (top : ℕ) → depthBy es ≡ top → suc top ≤ level es → seen es ≡ false
-  above-here top d high = not-seen (seen es) (λ s. omega (arith, reached-here es b .0 s .3, few es b))
+  above-here : (top : ℕ) → depthBy es ≡ top → suc top ≤ level es → watermarkBit es ≡ false
+  above-here top d high = not-seen (watermarkBit es) (λ s. omega (arith, reached-here es b .0 s .3, few es b))
 
 pub watermark : (es : List Event) → ByteWrites es → Watermark es
 watermark es b = record {
   reached = reached-here es b;
-  level-0 = λ z. not-seen (seen es) (λ s. omega (arith, reached-here es b .0 s .1));
+  level-0 = λ z. not-seen (watermarkBit es) (λ s. omega (arith, reached-here es b .0 s .1));
   above-1 = λ bypass high. above-here es b 1 (rw (eq-eqb (byteBy es 0x3E / 64) 0b00 bypass)) high;
-  above-32 = λ high. not-seen (seen es) (λ s. omega (arith, reached-here es b .0 s .2));
+  above-32 = λ high. not-seen (watermarkBit es) (λ s. omega (arith, reached-here es b .0 s .2));
   late = late-here es b;
   lasts = lasts-here es b;
   ends = ends-here es b;

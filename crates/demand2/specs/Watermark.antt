@@ -1,5 +1,5 @@
 -- Q-2: "Watermark means reached. A recorder that was late by one sample never woke .. The bit is 1 when the count is at or above a level
--- from 1 to 32. Level 0 and levels above the depth never fire." After any events from power-up, from the events alone; only `seen` asks
+-- from 1 to 32. Level 0 and levels above the depth never fire." After any events from power-up, from the events alone; only `watermarkBit` asks
 -- a device. The latest event of a history stands first.
 use Prim.Native.Nat.{ℕ, _+_, _-_, _/_, _≤_}
 use mathlib.Core.Bool.{Bool, true, false, not}
@@ -23,16 +23,16 @@ use Rattle.rules.specs.Stored.{ByteWrites, byteBy}
 
 -- ---- after a history
 -- what a recorder sees: bit 6 of the byte that a read of 0x0A gives
-abbrev pub seen : List Event → Bool
-seen es = bit 6 (getD (gives (after es) (read 0x0A 1) .bytes) 0 0)
+abbrev pub watermarkBit : List Event → Bool
+watermarkBit es = bit 6 (getD (gives (after es) (read 0x0A 1) .bytes) 0 0)
 
 -- "the level in 0x30"
 abbrev pub level : List Event → ℕ
 level es = byteBy es 0x30
 
 -- "the frame count is the number still held"
-abbrev pub held : List Event → ℕ
-held es = length (heldOf (fates accelerometer es))
+abbrev pub frameCount : List Event → ℕ
+frameCount es = length (heldOf (fates accelerometer es))
 
 -- the bytes of a frame
 abbrev pub frameSize : List Event → ℕ
@@ -64,24 +64,24 @@ arrived (e ∷ es) = worth 1 (isSample e) + arrived es
 abbrev pub asks : ℕ → Event → ℕ
 asks size e = atRead 0 (λ a n. pick (readsOut a n) (begun size n) 0) e
 
-abbrev pub asked : ℕ → List Event → ℕ
-asked size [] = 0
-asked size (e ∷ es) = asks size e + asked size es
+abbrev pub framesAsked : ℕ → List Event → ℕ
+framesAsked size [] = 0
+framesAsked size (e ∷ es) = asks size e + framesAsked size es
 
 -- ---- of the histories whose written bytes are bytes
 pub record Watermark (es : List Event) : Type 0 where
   -- "The bit is 1 when the count is at or above a level from 1 to 32"
-  pub reached : (seen es ≡ true) ↔ Reaches es 32 (held es)
+  pub reached : (watermarkBit es ≡ true) ↔ Reaches es 32 (frameCount es)
   -- "Level 0 and levels above the depth never fire": the depth is 1 in BYPASS, and 32 else
-  pub level-0 : level es ≡ 0 → seen es ≡ false
-  pub above-1 : byteBy es 0x3E / 64 ≡ 0b00 → 2 ≤ level es → seen es ≡ false
-  pub above-32 : 33 ≤ level es → seen es ≡ false
+  pub level-0 : level es ≡ 0 → watermarkBit es ≡ false
+  pub above-1 : byteBy es 0x3E / 64 ≡ 0b00 → 2 ≤ level es → watermarkBit es ≡ false
+  pub above-32 : 33 ≤ level es → watermarkBit es ≡ false
   -- "A recorder that was late by one sample never woke": late by any number of samples, and by whatever else it did meanwhile but
   -- reading frames, it sees the bit once so many samples have arrived, and from then on
-  pub late : (later : List Event) → ByteWrites later → goOn later ≡ true → asked (frameSize es) later ≡ 0
-      → (seen (later ++ es) ≡ true) ↔ Reaches es (depthBy es) (held es + arrived later)
+  pub late : (later : List Event) → ByteWrites later → goOn later ≡ true → framesAsked (frameSize es) later ≡ 0
+      → (watermarkBit (later ++ es) ≡ true) ↔ Reaches es (depthBy es) (frameCount es + arrived later)
   -- it sees the bit until it reads enough: while what its readouts asked for leaves the level, whatever arrives
-  pub lasts : (later : List Event) → ByteWrites later → goOn later ≡ true → level es + asked (frameSize es) later ≤ held es
-      → seen es ≡ true → seen (later ++ es) ≡ true
+  pub lasts : (later : List Event) → ByteWrites later → goOn later ≡ true → level es + framesAsked (frameSize es) later ≤ frameCount es
+      → watermarkBit es ≡ true → watermarkBit (later ++ es) ≡ true
   -- and no longer: a readout leaves what it does not take
-  pub ends : (n : ℕ) → 1 ≤ n → n ≤ 192 → (seen (read 0x3F n ∷ es) ≡ true) ↔ Reaches es 32 (held es - begun (frameSize es) n)
+  pub ends : (n : ℕ) → 1 ≤ n → n ≤ 192 → (watermarkBit (read 0x3F n ∷ es) ≡ true) ↔ Reaches es 32 (frameCount es - begun (frameSize es) n)

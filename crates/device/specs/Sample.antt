@@ -4,7 +4,7 @@ use mathlib.Core.Bool.{true, false, not}
 use mathlib.Core.List.{List, [], _∷_}
 use lib.IntN.{ℤ}
 use Rattle.laws.specs.Choice.{pick, either}
-use Rattle.laws.specs.Refusals.{Row, row, first}
+use Rattle.laws.specs.Refusals.{AnswerRow, row, first}
 use Rattle.codes.specs.Addresses.{controlAt}
 use Rattle.codes.specs.Mode.{modeOf}
 use Rattle.codes.specs.Axes.{axesOf}
@@ -24,7 +24,7 @@ use Rattle.device.specs.declared.Device.{Device}
 use Rattle.device.specs.declared.Answered.{Answered}
 
 -- 4, "x, y or z outside -2048..2047"
-abbrev pub sampleRows : ℤ → ℤ → ℤ → List (Row Answer)
+abbrev pub sampleRows : ℤ → ℤ → ℤ → List (AnswerRow Answer)
 sampleRows x y z = row OutOfRange (either (not (inRange x)) (either (not (inRange y)) (not (inRange z)))) ∷ []
 
 unfoldable pub sampleAnswer : ℤ → ℤ → ℤ → Answer

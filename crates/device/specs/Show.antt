@@ -13,7 +13,7 @@ use Rattle.fifo.specs.Setting.{depthIn}
 use Rattle.fifo.specs.Store.{countAt, statusAt}
 use Rattle.detectors.specs.Detectors.{motionStatus, motionMarks}
 use Rattle.interrupts.specs.Statuses.{statusesOf}
-use Rattle.interrupts.specs.Lines.{statusByte}
+use Rattle.interrupts.specs.Maps.{statusByte}
 use Rattle.interrupts.specs.Pins.{pinsAt}
 use Rattle.interrupts.specs.declared.Sources.{Sources}
 use Rattle.interrupts.specs.declared.Statuses.{Statuses}

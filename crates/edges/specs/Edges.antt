@@ -35,8 +35,8 @@ abbrev eachBit : List ℕ
 eachBit = 0x80 ∷ 0x40 ∷ 0x20 ∷ 0x10 ∷ 0x08 ∷ 0x04 ∷ 0x02 ∷ 0x01 ∷ []
 
 -- so many answers 0
-abbrev accepted : ℕ → List ℕ
-accepted n = upFrom (λ k. 0) 0 n
+abbrev allDone : ℕ → List ℕ
+allDone n = upFrom (λ k. 0) 0 n
 
 -- the watermark on, with a level, in a mode
 abbrev levelIn : ℕ → ℕ → List Step
@@ -112,9 +112,9 @@ rows =
     eachBit at 0x3A give (13 ∷ 13 ∷ 13 ∷ 13 ∷ 13 ∷ 13 ∷ 13 ∷ 13 ∷ []) leave 0x00 ∷
     (0x00 ∷ []) at 0x38 give (0 ∷ []) leave 0x00 ∷ (0x00 ∷ []) at 0x39 give (0 ∷ []) leave 0x00 ∷ (0x00 ∷ []) at 0x3A give (0 ∷ []) leave 0x00 ∷
     -- Q-4 "14 is gone": every nibble, and with the command of bit 7
-    upFrom (λ nibble. nibble) 0x00 16 at 0x21 give accepted 16 leave 0x0F ∷
-    upFrom (λ nibble. nibble) 0x80 16 at 0x21 give accepted 16 leave 0x0F ∷
-    eachBit at 0x21 give accepted 8 leave 0x01 ∷
+    upFrom (λ nibble. nibble) 0x00 16 at 0x21 give allDone 16 leave 0x0F ∷
+    upFrom (λ nibble. nibble) 0x80 16 at 0x21 give allDone 16 leave 0x0F ∷
+    eachBit at 0x21 give allDone 8 leave 0x01 ∷
     -- Q-2 "The watermark case in 01 becomes 0, 1, 1": level 2 with one, two, three frames
     (levelIn 2 0x40 ++ samples 1 ++ status 0x00 ++ samples 1 ++ status 0x40 ++ samples 1 ++ status 0x40) ∷
     -- Q-2 "at or above a level from 1 to 32": level 32 with 31, 32 and one sample more, in FIFO and in STREAM mode

@@ -25,6 +25,6 @@ abbrev pub onward : Device → List Event → Device
 onward d [] = d
 onward d (e ∷ es) = onward (next d e) es
 
-abbrev pub told : Device → List Event → List Given
-told d [] = []
-told d (e ∷ es) = gives d e ∷ told (next d e) es
+abbrev pub allGiven : Device → List Event → List Given
+allGiven d [] = []
+allGiven d (e ∷ es) = gives d e ∷ allGiven (next d e) es

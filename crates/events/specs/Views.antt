@@ -1,5 +1,5 @@
--- One kind of event at a time: what f says of an event of that kind, and other of any other. Whoever looks back on a history asks these,
--- so that a new event has its lines here.
+-- One kind of event at a time: what f says of an event of that kind, and other of any other. What looks back on a history for one kind
+-- can ask these, and a new event has its lines here; a definition that goes through the kinds itself has a line for each.
 use Prim.Native.Nat.{ℕ}
 use mathlib.Core.Bool.{Bool, true, false}
 use lib.IntN.{ℤ}

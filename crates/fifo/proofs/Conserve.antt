@@ -13,37 +13,37 @@ use Rattle.laws.specs.Choice.{pick}
 use Rattle.fifo.specs.declared.Drop.{Drop}
 use Rattle.fifo.specs.declared.Drop.the-variants.{Newcomer, Oldest}
 use Rattle.fifo.specs.declared.Setting.{Setting}
-use Rattle.fifo.specs.Queue.{Queue, reached, pushed, without}
-use Rattle.fifo.specs.Ledger.{Event, sample, readout, Mark, taken, held, lost, heldIn, passed, arrives, takes, heldOf, takenOf, lostOf, anyLost, allOf, accepted, marks, run}
+use Rattle.fifo.specs.Queue.{Queue, framesReached, pushed, without}
+use Rattle.fifo.specs.Ledger.{Event, sample, readout, Fate, taken, held, lost, heldIn, passed, arrives, takes, heldOf, takenOf, lostOf, anyLost, allOf, acceptedSamples, fatesBy, run}
 
 -- no held sample is older than a taken one and, where the oldest is dropped, than a lost one
-abbrev pub InOrder : {A : Type 0} → Drop → List (Mark A) → Type 0
+abbrev pub InOrder : {A : Type 0} → Drop → List (Fate A) → Type 0
 InOrder r [] = Unit
 InOrder r (taken a ∷ ms) = heldIn ms ≡ 0
 InOrder r (held a ∷ ms) = InOrder r ms
 InOrder r (lost a ∷ ms) = InOrder r ms × (r ≡ Oldest → heldIn ms ≡ 0)
 
 module _ {A : Type 0} where
-  length-held : (ms : List (Mark A)) → length (heldOf ms) ≡ heldIn ms
+  length-held : (ms : List (Fate A)) → length (heldOf ms) ≡ heldIn ms
   length-held [] = refl
   length-held (taken a ∷ ms) = length-held ms
   length-held (held a ∷ ms) = omega (arith, length-append (heldOf ms) (a ∷ []), length-held ms)
   length-held (lost a ∷ ms) = length-held ms
 
-  pub none-held : (ms : List (Mark A)) → heldIn ms ≡ 0 → heldOf ms ≡ []
+  pub none-held : (ms : List (Fate A)) → heldIn ms ≡ 0 → heldOf ms ≡ []
   none-held [] e = refl
   none-held (taken a ∷ ms) e = none-held ms e
   none-held (held a ∷ ms) e = absurd (omega arith)
   none-held (lost a ∷ ms) e = none-held ms e
 
-  pub settled-none : (r : Drop) (ms : List (Mark A)) → heldIn ms ≡ 0 → InOrder r ms
+  pub settled-none : (r : Drop) (ms : List (Fate A)) → heldIn ms ≡ 0 → InOrder r ms
   settled-none r [] e = tt
   settled-none r (taken a ∷ ms) e = e
   settled-none r (held a ∷ ms) e = absurd (omega arith)
   settled-none r (lost a ∷ ms) e = (settled-none r ms e, λ o. e)
 
   -- ---- a readout that reaches k frames
-  record Read (r : Drop) (k : ℕ) (ms ns : List (Mark A)) : Type 0 where
+  record Read (r : Drop) (k : ℕ) (ms ns : List (Fate A)) : Type 0 where
     whole : allOf ns ≡ allOf ms
     frames : heldOf ns ≡ drop k (heldOf ms)
     out : takenOf ns ≡ takenOf ms ++ take k (heldOf ms)
@@ -51,11 +51,11 @@ module _ {A : Type 0} where
     count : heldIn ns ≡ heldIn ms - k
     order : InOrder r ns
 
-  -- one more mark of a kind
+  -- one more fate of a kind
   snoc : {x y : List A} (a : A) → x ≡ y → x ++ (a ∷ []) ≡ y ++ (a ∷ [])
   snoc a e = rw e
 
-  read-all : (r : Drop) (k : ℕ) (ms : List (Mark A)) → InOrder r ms → Read r k ms (takes k ms)
+  read-all : (r : Drop) (k : ℕ) (ms : List (Fate A)) → InOrder r ms → Read r k ms (takes k ms)
   read-all r k [] s = record { whole = refl; frames = sym (drop-nil k); out = sym (take-nil k); over = refl; count = omega arith; order = tt }
   read-all r k (taken a ∷ ms) s =
       let g = read-all r k ms (settled-none r ms s) in
@@ -102,7 +102,7 @@ module _ {A : Type 0} where
       }
 
   -- ---- a sample passes the one that came n before it
-  passed-none : (n : ℕ) (ms : List (Mark A)) → heldIn ms ≡ 0 → passed n ms ≡ ms
+  passed-none : (n : ℕ) (ms : List (Fate A)) → heldIn ms ≡ 0 → passed n ms ≡ ms
   passed-none n [] e = refl
   passed-none zero (taken a ∷ ms) e = refl
   passed-none zero (held a ∷ ms) e = absurd (omega arith)
@@ -112,7 +112,7 @@ module _ {A : Type 0} where
   passed-none (suc n) (lost a ∷ ms) e = rw (passed-none n ms e)
 
   -- with at most n held, that one is not held
-  passed-few : (n : ℕ) (ms : List (Mark A)) → InOrder Oldest ms → heldIn ms ≤ n → passed n ms ≡ ms
+  passed-few : (n : ℕ) (ms : List (Fate A)) → InOrder Oldest ms → heldIn ms ≤ n → passed n ms ≡ ms
   passed-few n [] s h = refl
   passed-few zero (held a ∷ ms) s h = absurd (omega arith)
   passed-few (suc n) (held a ∷ ms) s h = rw (passed-few n ms s (omega arith))
@@ -120,7 +120,7 @@ module _ {A : Type 0} where
   passed-few n (lost a ∷ ms) s h = passed-none n (lost a ∷ ms) (s .1 refl)
 
   -- with n + 1 held, it is the oldest held
-  record Passed (n : ℕ) (ms ns : List (Mark A)) : Type 0 where
+  record Passed (n : ℕ) (ms ns : List (Fate A)) : Type 0 where
     whole : allOf ns ≡ allOf ms
     frames : heldOf ns ≡ drop 1 (heldOf ms)
     out : takenOf ns ≡ takenOf ms
@@ -128,7 +128,7 @@ module _ {A : Type 0} where
     count : heldIn ns ≡ n
     order : InOrder Oldest ns
 
-  passed-full : (n : ℕ) (ms : List (Mark A)) → InOrder Oldest ms → heldIn ms ≡ suc n → Passed n ms (passed n ms)
+  passed-full : (n : ℕ) (ms : List (Fate A)) → InOrder Oldest ms → heldIn ms ≡ suc n → Passed n ms (passed n ms)
   passed-full n [] s h = absurd (omega arith)
   passed-full n (taken a ∷ ms) s h = absurd (omega arith)
   passed-full n (lost a ∷ ms) s h = absurd (omega (arith, s .1 refl))
@@ -146,8 +146,8 @@ module _ {A : Type 0} where
         order = g .order;
       }
 
--- ---- the FIFO and the marks agree
-record Sound {A : Type 0} (r : Drop) (d : ℕ) (q : Queue A) (o all : List A) (ms : List (Mark A)) : Type 0 where
+-- ---- the FIFO and the fates agree
+record Sound {A : Type 0} (r : Drop) (d : ℕ) (q : Queue A) (o all : List A) (ms : List (Fate A)) : Type 0 where
   whole : allOf ms ≡ all
   frames : q .frames ≡ heldOf ms
   out : o ≡ takenOf ms
@@ -155,7 +155,7 @@ record Sound {A : Type 0} (r : Drop) (d : ℕ) (q : Queue A) (o all : List A) (m
   few : heldIn ms ≤ d
   order : InOrder r ms
 
-module _ {A : Type 0} {q : Queue A} {o all : List A} {ms : List (Mark A)} where
+module _ {A : Type 0} {q : Queue A} {o all : List A} {ms : List (Fate A)} where
   count-held : {r : Drop} {d : ℕ} → Sound r d q o all ms → length (q .frames) ≡ heldIn ms
   count-held g = ap length (g .frames) ∙ length-held ms
 
@@ -218,22 +218,22 @@ module _ {A : Type 0} {q : Queue A} {o all : List A} {ms : List (Mark A)} where
 -- ---- every sequence of events since the last clear, the latest first
 pub record Conserved {A : Type 0} (s : Setting) (es : List (Event A)) : Type 0 where
   -- the ledger has the accepted samples, each once, in order
-  pub whole : allOf (marks s es) ≡ accepted es
+  pub whole : allOf (fatesBy s es) ≡ acceptedSamples es
   -- the FIFO holds those that are held, and gave out those that are taken
-  pub frames : run s es .queue .frames ≡ heldOf (marks s es)
-  pub out : run s es .out ≡ takenOf (marks s es)
+  pub frames : run s es .queue .frames ≡ heldOf (fatesBy s es)
+  pub out : run s es .out ≡ takenOf (fatesBy s es)
   -- overrun is set where one is lost
-  pub overrun : run s es .queue .overrun ≡ anyLost (marks s es)
-  pub few : heldIn (marks s es) ≤ s .depth
-  pub count : length (run s es .queue .frames) ≡ heldIn (marks s es)
+  pub overrun : run s es .queue .overrun ≡ anyLost (fatesBy s es)
+  pub few : heldIn (fatesBy s es) ≤ s .depth
+  pub count : length (run s es .queue .frames) ≡ heldIn (fatesBy s es)
 
 module _ {A : Type 0} (s : Setting) (some : s .drops ≡ Oldest → 1 ≤ s .depth) where
-  sound : (es : List (Event A)) → Sound (s .drops) (s .depth) (run s es .queue) (run s es .out) (accepted es) (marks s es)
+  sound : (es : List (Event A)) → Sound (s .drops) (s .depth) (run s es .queue) (run s es .out) (acceptedSamples es) (fatesBy s es)
   sound [] = record { whole = refl; frames = refl; out = refl; overrun = refl; few = omega arith; order = tt }
   sound (sample a ∷ es) = sound-arrives (s .drops) (s .depth) (s .size) a some (sound es)
-  sound (readout n ∷ es) = sound-takes (reached (s .size) n) (sound es)
+  sound (readout n ∷ es) = sound-takes (framesReached (s .size) n) (sound es)
 
-  pub in-order : (es : List (Event A)) → InOrder (s .drops) (marks s es)
+  pub in-order : (es : List (Event A)) → InOrder (s .drops) (fatesBy s es)
   in-order es = sound es .order
 
   pub conserved : (es : List (Event A)) → Conserved s es
@@ -243,13 +243,13 @@ module _ {A : Type 0} (s : Setting) (some : s .drops ≡ Oldest → 1 ≤ s .dep
 
 -- ---- the numbers add up
 module _ {A : Type 0} where
-  pub numbers : (ms : List (Mark A)) → length (allOf ms) ≡ length (takenOf ms) + heldIn ms + length (lostOf ms)
+  pub numbers : (ms : List (Fate A)) → length (allOf ms) ≡ length (takenOf ms) + heldIn ms + length (lostOf ms)
   numbers [] = refl
   numbers (taken a ∷ ms) = omega (arith, numbers ms, length-append (allOf ms) (a ∷ []), length-append (takenOf ms) (a ∷ []))
   numbers (held a ∷ ms) = omega (arith, numbers ms, length-append (allOf ms) (a ∷ []))
   numbers (lost a ∷ ms) = omega (arith, numbers ms, length-append (allOf ms) (a ∷ []), length-append (lostOf ms) (a ∷ []))
 
-  pub any-lost : (ms : List (Mark A)) → anyLost ms ≡ ltb 0 (length (lostOf ms))
+  pub any-lost : (ms : List (Fate A)) → anyLost ms ≡ ltb 0 (length (lostOf ms))
   any-lost [] = refl
   any-lost (taken a ∷ ms) = any-lost ms
   any-lost (held a ∷ ms) = any-lost ms

@@ -15,7 +15,7 @@ use Rattle.laws.proofs.Bytes.{length-zeros, zeros-zeros, first-front, paste-pad
 use Rattle.fifo.specs.declared.Drop.{Drop}
 use Rattle.fifo.specs.declared.Drop.the-variants.{Newcomer, Oldest}
 use Rattle.fifo.specs.declared.Setting.{Setting}
-use Rattle.fifo.specs.Queue.{Queue, reached, empty, pushed, without}
+use Rattle.fifo.specs.Queue.{Queue, framesReached, empty, pushed, without}
 use Rattle.fifo.specs.Flat.{flat, packed, heldFrames, behind, forward, vacated, flatPushed, flatRead, bytesRead}
 
 -- every frame has size bytes
@@ -145,27 +145,27 @@ module _ {room most size : ℕ} {q : Queue (List ℕ)} (w : Framed room most siz
   unfolding bytesRead packed padded
   flat-bytes b = rw (flat-held, take-at (flat (q .frames)) _ (length (q .frames) * size) (length-flat size (q .frames) (w .sized)))
 
-  pub flat-read : (b : ℕ) → flatRead most size b (packed room q) ≡ packed room (without (reached size b) q)
+  pub flat-read : (b : ℕ) → flatRead most size b (packed room q) ≡ packed room (without (framesReached size b) q)
   unfolding flatRead packed padded
   flat-read b =
       let fs = q .frames in
-      let k = min (reached size b) (length fs) in
-      let d : drop k fs ≡ drop (reached size b) fs = drop-held (reached size b) fs in
+      let k = min (framesReached size b) (length fs) in
+      let d : drop k fs ≡ drop (framesReached size b) fs = drop-held (framesReached size b) fs in
       let p = cleared size room k fs (w .sized) (omega arith) (omega (arith, mul-le-mul-right size (w .few))) in
       let c : length fs - k ≡ length (drop k fs) = sym (length-drop k fs) in
       rw (flat-held, ← d) (λ i. record { bytes = p i; count = c i; overrun = q .overrun })
 
 -- ---- the bytes that a readout gives
 -- the frames that b bytes reach have b bytes
-reached-covers : (size b : ℕ) → 1 ≤ size → b ≤ reached size b * size
+reached-covers : (size b : ℕ) → 1 ≤ size → b ≤ framesReached size b * size
 reached-covers size b h = omega (arith, lt-div-mul-add {a = b + (size - 1)} {b = size} h)
 
-pub first-taken : (size b : ℕ) (fs : List (List ℕ)) → 1 ≤ size → Sized size fs → firstOrZeros b (flat fs) ≡ firstOrZeros b (flat (take (reached size b) fs))
-first-taken size b fs h s = go (ltb (length fs) (reached size b)) refl
+pub first-taken : (size b : ℕ) (fs : List (List ℕ)) → 1 ≤ size → Sized size fs → firstOrZeros b (flat fs) ≡ firstOrZeros b (flat (take (framesReached size b) fs))
+first-taken size b fs h s = go (ltb (length fs) (framesReached size b)) refl
   where
-    go : (t : Bool) → ltb (length fs) (reached size b) ≡ t → firstOrZeros b (flat fs) ≡ firstOrZeros b (flat (take (reached size b) fs))
-    go true e = rw (take-all (reached size b) fs (omega (arith, ltb-true)))
+    go : (t : Bool) → ltb (length fs) (framesReached size b) ≡ t → firstOrZeros b (flat fs) ≡ firstOrZeros b (flat (take (framesReached size b) fs))
+    go true e = rw (take-all (framesReached size b) fs (omega (arith, ltb-true)))
     go false e =
-        let r = reached size b in
+        let r = framesReached size b in
         let l : length (flat (take r fs)) ≡ r * size = length-flat size (take r fs) (sized-take size r fs s) ∙ rw (length-take-le r fs (ltb-false (length fs) r e)) in
         ap (λ (x : List ℕ). firstOrZeros b x) (flat-split r fs) ∙ first-front b (flat (take r fs)) (flat (drop r fs)) (omega (arith, reached-covers size b h))

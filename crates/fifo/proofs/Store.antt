@@ -16,7 +16,7 @@ use Rattle.codes.specs.declared.Axes.{Axes}
 use Rattle.fifo.specs.declared.Setting.{Setting}
 use Rattle.fifo.specs.declared.Fifo.{Fifo}
 use Rattle.fifo.specs.Setting.{sizeOf, depthIn, settingOf}
-use Rattle.fifo.specs.Queue.{Queue, reached, empty, pushed, without}
+use Rattle.fifo.specs.Queue.{Queue, framesReached, empty, pushed, without}
 use Rattle.fifo.specs.Ledger.{Event}
 use Rattle.fifo.specs.Flat.{Flat, flat, packed, heldFrames, flatPushed, flatRead, numbersOf}
 use Rattle.fifo.specs.Store.{pushedIn, readIn, bytesIn, countIn, room, noFrames, emptied, statusAt}
@@ -49,10 +49,10 @@ module _ {room depth : ℕ} {axes : Axes} {q : Queue (List ℕ)} (w : Fits room 
 
   -- ---- n bytes are read
   module _ (n : ℕ) where
-    pub fits-read : Fits room depth axes (without (reached (sizeOf axes) n) q)
-    fits-read = record { deep = w .deep; framed = framed-without (reached (sizeOf axes) n) (w .framed) }
+    pub fits-read : Fits room depth axes (without (framesReached (sizeOf axes) n) q)
+    fits-read = record { deep = w .deep; framed = framed-without (framesReached (sizeOf axes) n) (w .framed) }
 
-    pub read-packed : readIn room depth axes n (packed room q) ≡ packed room (without (reached (sizeOf axes) n) q)
+    pub read-packed : readIn room depth axes n (packed room q) ≡ packed room (without (framesReached (sizeOf axes) n) q)
     unfolding readIn
     read-packed = rw (fitting-is (w .deep)) (flat-read (w .framed) n)
 
@@ -61,7 +61,7 @@ module _ {room depth : ℕ} {axes : Axes} {q : Queue (List ℕ)} (w : Fits room 
     unfolding bytesIn
     bytes-packed = rw (fitting-is (w .deep)) (flat-bytes (w .framed) n)
 
-    pub bytes-taken : bytesIn room depth axes n (packed room q) ≡ firstOrZeros n (flat (take (reached (sizeOf axes) n) (q .frames)))
+    pub bytes-taken : bytesIn room depth axes n (packed room q) ≡ firstOrZeros n (flat (take (framesReached (sizeOf axes) n) (q .frames)))
     bytes-taken = bytes-packed ∙ first-taken (sizeOf axes) n (q .frames) (size-bounds axes .0) (w .framed .sized)
 
   -- ---- the numbers

@@ -1,4 +1,4 @@
--- The FIFO as bytes: a store of any room, with a count and the overrun mark, and what it means.
+-- The FIFO as bytes: a store of any room, with a count and the overrun bit, and what it means.
 -- Every store has a meaning: a count above the most that fit counts as that.
 use Prim.Native.Nat.{ℕ, _+_, _-_, _*_, _≤_, min}
 use mathlib.Core.Path.{_≡_}
@@ -13,7 +13,7 @@ use Rattle.fifo.specs.declared.Drop.{Drop}
 use Rattle.fifo.specs.declared.Drop.the-variants.{Newcomer, Oldest}
 use Rattle.fifo.specs.declared.Setting.{Setting}
 use Rattle.fifo.specs.declared.Fifo.{Fifo}
-use Rattle.fifo.specs.Queue.{Queue, reached}
+use Rattle.fifo.specs.Queue.{Queue, framesReached}
 
 pub record Flat : Type 0 where
   pub bytes : List ℕ
@@ -71,7 +71,7 @@ flatPushed most s frame f =
 unfoldable pub flatRead : ℕ → ℕ → ℕ → Flat → Flat
 flatRead most size b f =
     let n = heldFrames most f in
-    let k = min (reached size b) n in
+    let k = min (framesReached size b) n in
     record { bytes = vacated size n k (forward size n k (f .bytes)); count = n - k; overrun = f .overrun }
 
 -- the b bytes of that readout: "Past the last frame it gives zeros"

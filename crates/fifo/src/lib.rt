@@ -8,7 +8,7 @@ ghost use lib.Dec.{ltb};
 ghost use Rattle.laws.specs.Choice.{pick};
 ghost use Rattle.laws.specs.Bytes.{zeros, firstOrZeros};
 ghost use Rattle.fifo.specs.Setting.{longestFrame, sizeOf, depthIn, dropsIn, settingOf};
-ghost use Rattle.fifo.specs.Queue.{reached};
+ghost use Rattle.fifo.specs.Queue.{framesReached};
 ghost use Rattle.fifo.specs.Flat.{Room, flatAt, numbersOf, behind, forward, vacated, dropping};
 ghost use Rattle.fifo.specs.Store.{room, fitting, noFrames, emptied, pushedAt, readoutAt, readoutBytesAt, countAt, statusAt};
 use codes::Axes;
@@ -104,7 +104,7 @@ fn depth_within(depth: usize) -> usize
 // How many frames a readout of n bytes reaches.
 fn frames_reached(n: usize, size: usize) -> usize
     requires { ⌜ (1 ≤ size) × (n + size < 2 ^ 64) ⌝ }
-    ensures { λ r. ⌜ r ≡ reached size n ⌝ }
+    ensures { λ r. ⌜ r ≡ framesReached size n ⌝ }
 {
     (n + (size - 1)) / size
 }
@@ -182,7 +182,7 @@ fn push_frame(s: &mut [u8], held: usize, setting: Setting, frame: &[u8]) -> bool
 // A readout of as many bytes as out has, from a store of held frames: how many are left.
 fn read_frames(s: &mut [u8], held: usize, size: usize, out: &mut [u8]) -> usize
     requires { ⌜ (held * size ≤ length (now s)) × (1 ≤ size) × (size ≤ longestFrame) ⌝ }
-    ensures { λ left. ⌜ (let taken = min (reached size (length (now (out .entry)))) held in
+    ensures { λ left. ⌜ (let taken = min (framesReached size (length (now (out .entry)))) held in
         (left ≡ held - taken) × (now (s .exit) ≡ vacated size held taken (forward size held taken (now (s .entry)))))
         × (now (out .exit) ≡ firstOrZeros (length (now (out .entry))) (take (held * size) (now (s .entry)))) ⌝ }
 {

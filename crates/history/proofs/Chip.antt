@@ -12,8 +12,8 @@ use Rattle.laws.specs.Bits.{bit, worth}
 use Rattle.laws.specs.Bytes.{firstOrZeros}
 use Rattle.fifo.specs.Flat.{flat}
 use Rattle.fifo.specs.Ledger as ledger
-use Rattle.fifo.specs.Ledger.{Mark, taken, held, lost, marks, run, heldIn, heldOf, takenOf, lostOf}
-use Rattle.fifo.specs.Queue.{Queue, reached}
+use Rattle.fifo.specs.Ledger.{Fate, taken, held, lost, fatesBy, run, heldIn, heldOf, takenOf, lostOf}
+use Rattle.fifo.specs.Queue.{Queue, framesReached}
 use Rattle.fifo.specs.declared.Drop.{Drop}
 use Rattle.fifo.specs.declared.Drop.the-variants.{Oldest}
 use Rattle.fifo.specs.declared.Setting.{Setting}
@@ -45,7 +45,7 @@ pub record Lawful (c : Chip) : Type 0 where
 abbrev pub queueOf : (c : Chip) → List (c .Event) → Queue (List ℕ)
 queueOf c es = run (c .setting es) (since c es) .queue
 
--- the twin gives the bytes of the frames held, and shows their number and the overrun mark
+-- the twin gives the bytes of the frames held, and shows their number and the overrun bit
 pub record Follows (c : Chip) (t : Twin c) : Type 0 where
   pub reads : (es : List (c .Event)) (e : c .Event) (n : ℕ) → c .says es e ≡ readOut n → t es 0x3F n ≡ firstOrZeros n (flat (queueOf c es .frames))
   pub shows : (es : List (c .Event)) → t es 0x0E 1 ≡ (worth 128 (queueOf c es .overrun) + length (queueOf c es .frames)) ∷ []
@@ -61,8 +61,8 @@ frames-out s deep one [] = refl
 frames-out s deep one (ledger.sample f ∷ es) = frames-out s deep one es
 frames-out s deep one (ledger.readout n ∷ es) = framesOf-snoc (readouts s es) _ ∙ rw (frames-out s deep one es, begun-reached (s .size) one n, conserved s deep es .frames)
 
--- ---- marks in order
-taken-held : {A : Type 0} (r : Drop) (ms : List (Mark A)) → InOrder r ms → takenOf ms ++ heldOf ms ≡ notLost ms
+-- ---- fates in order
+taken-held : {A : Type 0} (r : Drop) (ms : List (Fate A)) → InOrder r ms → takenOf ms ++ heldOf ms ≡ notLost ms
 taken-held r [] o = refl
 taken-held r (taken a ∷ ms) o =
     let h : heldOf ms ≡ [] = none-held ms o in
@@ -100,13 +100,13 @@ framed c law (e ∷ es) = go (c .says es e) refl (framed c law es)
     go : (w : Said) → c .says es e ≡ w → FramedAt (c .setting es) (since c es) → FramedAt (c .setting (e ∷ es)) (onto w (since c es))
     go cleared q i = none-framed (c .setting (e ∷ es))
     go (sampled f) q i = re-set (ledger.sample f ∷ since c es) (law .keeps es e (rw q)) (framed-pushed (c .setting es) i (law .some-deep es) f (omega arith) (law .sized es e f q))
-    go (readOut n) q i = re-set (ledger.readout n ∷ since c es) (law .keeps es e (rw q)) (framed-without (reached (c .setting es .size) n) i)
+    go (readOut n) q i = re-set (ledger.readout n ∷ since c es) (law .keeps es e (rw q)) (framed-without (framesReached (c .setting es .size) n) i)
     go nothing q i = re-set (since c es) (law .keeps es e (rw q)) i
 
 module _ (c : Chip) (t : Twin c) (law : Lawful c) (follows : Follows c t) where
   -- the bytes of one readout
   out-given : (es : List (c .Event)) (e : c .Event) (n : ℕ) → c .says es e ≡ readOut n
-      → t es 0x3F n ≡ firstOrZeros n (flat (take (begun (c .setting es .size) n) (heldOf (marks (c .setting es) (since c es)))))
+      → t es 0x3F n ≡ firstOrZeros n (flat (take (begun (c .setting es .size) n) (heldOf (fatesBy (c .setting es) (since c es)))))
   out-given es e n q =
       let s = c .setting es in
       follows .reads es e n q ∙ first-taken (s .size) n (queueOf c es .frames) (law .one es) (framed c law es .sized)
@@ -122,7 +122,7 @@ module _ (c : Chip) (t : Twin c) (law : Lawful c) (follows : Follows c t) where
       Gives es = gave c t es ≡ map dueBytes (readouts (c .setting es) (since c es))
 
       go : (w : Said) → c .says es e ≡ w → Gives es
-          → ((n : ℕ) → c .says es e ≡ readOut n → t es 0x3F n ≡ firstOrZeros n (flat (take (begun (c .setting es .size) n) (heldOf (marks (c .setting es) (since c es))))))
+          → ((n : ℕ) → c .says es e ≡ readOut n → t es 0x3F n ≡ firstOrZeros n (flat (take (begun (c .setting es .size) n) (heldOf (fatesBy (c .setting es) (since c es))))))
           → Gives (e ∷ es)
       go cleared q i o = rw q
       go (sampled f) q i o = rw (law .keeps es e (rw q), q) i
@@ -133,7 +133,7 @@ module _ (c : Chip) (t : Twin c) (law : Lawful c) (follows : Follows c t) where
   unfolding fates dueStatus
   conserves es =
       let s = c .setting es in
-      let ms = marks s (since c es) in
+      let ms = fatesBy s (since c es) in
       let deep = law .some-deep es in
       let one = law .one es in
       let g = conserved s deep (since c es) in

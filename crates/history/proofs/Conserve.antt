@@ -22,7 +22,7 @@ use Rattle.codes.specs.declared.Mode.{Mode}
 use Rattle.codes.specs.declared.Mode.the-variants.{Bypass, Fifo, Stream, Reserved}
 use Rattle.fifo.specs.Flat.{flat, packed, numbersOf}
 use Rattle.fifo.specs.Ledger as ledger
-use Rattle.fifo.specs.Ledger.{marks, heldOf, lostOf}
+use Rattle.fifo.specs.Ledger.{fatesBy, heldOf, lostOf}
 use Rattle.fifo.specs.Queue.{Queue}
 use Rattle.fifo.specs.Setting.{dropsIn, settingOf}
 use Rattle.fifo.specs.Store.{room}
@@ -46,7 +46,7 @@ use Rattle.history.specs.Lost.{LostBy}
 use Rattle.history.specs.Whole.{OverClears}
 use Rattle.history.proofs.Chip.{isCleared, Lawful, Follows, conserves}
 use Rattle.history.proofs.Whole.{over-clears}
-use Rattle.history.proofs.Told.{Holds, frame-long, queueAt, told, deep}
+use Rattle.history.proofs.Holds.{Holds, frame-long, queueAt, holds-after, deep}
 
 -- ---- a device that holds a queue
 module _ {c : ℕ} {q : Queue (List ℕ)} {d : Device} (h : Holds c q d) where
@@ -133,8 +133,8 @@ readout-only es (clock us) n q = cc
 follows : Follows accelerometer twin
 unfolding twin queueAt zeros
 follows = record {
-  reads = λ es e n q. held-given (told es) n (readout-only es e n q);
-  shows = λ es. status-read (told es) 0;
+  reads = λ es e n q. held-given (holds-after es) n (readout-only es e n q);
+  shows = λ es. status-read (holds-after es) 0;
 }
 
 -- ---- any events
@@ -151,7 +151,7 @@ demand3 es =
     let d = conserves accelerometer twin lawful follows es in
     record {
       demand = d;
-      lost = λ later earlier f e. Iff·trans (d .lost later earlier f e) (lost-here (modeOf (control es)) (axesOf (control es)) (told es .mode) earlier f later);
+      lost = λ later earlier f e. Iff·trans (d .lost later earlier f e) (lost-here (modeOf (control es)) (axesOf (control es)) (holds-after es .mode) earlier f later);
       few = omega (arith, d .few, depth-most deep (modeOf (control es)));
     }
 
@@ -163,7 +163,7 @@ pub device-holds : (es : List Event) → flatOf (after es) ≡ packed room (reco
 unfolding fates queueAt
 device-holds es =
     let g = conserved (setting es) (depth-some deep (modeOf (control es))) (since accelerometer es) in
-    told es .same ∙ (λ i. packed room (record { frames = g .frames i; overrun = (g .overrun ∙ any-lost (marks (setting es) (since accelerometer es))) i }))
+    holds-after es .same ∙ (λ i. packed room (record { frames = g .frames i; overrun = (g .overrun ∙ any-lost (fatesBy (setting es) (since accelerometer es))) i }))
 
 -- the bytes that the twin gives are in any lent buffer
 pub any-buffer : (es : List Event) (a : ℕ) (buffer : List ℕ) → accepted (readAnswer a (length buffer)) ≡ true → bufferAfter (after es) a buffer ≡ twin es a (length buffer)

@@ -11,8 +11,8 @@ use lib.Dec.{eqb, ltb}
 use lib.ListN.{length, drop, length-append, length-drop}
 use borrow.Author.Tests.{eqb-true, eqb-false, ltb-true, ltb-false}
 use Rattle.laws.specs.Bits.{worth}
-use Rattle.fifo.specs.Ledger.{Event, sample, readout, heldIn, marks, run}
-use Rattle.fifo.specs.Queue.{Queue, reached, pushed}
+use Rattle.fifo.specs.Ledger.{Event, sample, readout, heldIn, fatesBy, run}
+use Rattle.fifo.specs.Queue.{Queue, framesReached, pushed}
 use Rattle.fifo.specs.declared.Drop.{Drop}
 use Rattle.fifo.specs.declared.Drop.the-variants.{Newcomer, Oldest}
 use Rattle.fifo.specs.declared.Setting.{Setting}
@@ -22,7 +22,7 @@ use Rattle.history.specs.Counts.{begun, heldAfter}
 -- ---- frames that a readout reaches
 module _ (size : ℕ) (one : 1 ≤ size) where
   -- there are as many as it begins
-  pub begun-reached : (n : ℕ) → begun size n ≡ reached size n
+  pub begun-reached : (n : ℕ) → begun size n ≡ framesReached size n
   unfolding begun
   begun-reached zero = sym (div-eq-of-lt (omega arith))
   begun-reached (suc n) = go (eqb (n % size) 0) refl (begun-reached n)
@@ -30,21 +30,21 @@ module _ (size : ℕ) (one : 1 ≤ size) where
       divided : n / size * size + n % size ≡ n
       divided = div-add-mod' n size
 
-      next : reached size (suc n) ≡ n / size + 1
+      next : framesReached size (suc n) ≡ n / size + 1
       next = let e : suc n + (size - 1) ≡ n + size = omega arith in ap (λ (m : ℕ). m / size) e ∙ add-div-right n one
 
-      go : (t : Bool) → eqb (n % size) 0 ≡ t → begun size n ≡ reached size n → worth 1 t + begun size n ≡ reached size (suc n)
+      go : (t : Bool) → eqb (n % size) 0 ≡ t → begun size n ≡ framesReached size n → worth 1 t + begun size n ≡ framesReached size (suc n)
       go true e i =
           let z : n % size ≡ 0 = eqb-true (n % size) 0 e in
-          let w : reached size n ≡ n / size = div-eq-of-lt-le size (omega (arith, divided)) (omega (arith, divided)) in
+          let w : framesReached size n ≡ n / size = div-eq-of-lt-le size (omega (arith, divided)) (omega (arith, divided)) in
           omega (arith, i, w, next)
       go false e i =
           let z : 1 ≤ n % size = omega (arith, eqb-false (n % size) 0 e) in
-          let w : reached size n ≡ n / size + 1 = div-eq-of-lt-le size (omega (arith, divided)) (omega (arith, divided, mod-lt n one)) in
+          let w : framesReached size n ≡ n / size + 1 = div-eq-of-lt-le size (omega (arith, divided)) (omega (arith, divided, mod-lt n one)) in
           omega (arith, i, w, next)
 
   -- a frame with k before it is reached when its first byte is
-  pub first-reached : (k n : ℕ) → (k < reached size n) ↔ (k * size < n)
+  pub first-reached : (k n : ℕ) → (k < framesReached size n) ↔ (k * size < n)
   first-reached k n =
       let d = le-div-iff-mul-le {k = size} {x = suc k} {y = n + (size - 1)} one in
       (λ h. omega (arith, d .0 h), λ h. d .1 (omega arith))
@@ -65,5 +65,5 @@ module _ {A : Type 0} (s : Setting) (some : s .drops ≡ Oldest → 1 ≤ s .dep
   held-frames (sample a ∷ es) = let g = conserved s some es in rw (held-frames es) (pushed-length (run s es .queue) a (omega (arith, g .few, g .count)))
   held-frames (readout n ∷ es) = rw (held-frames es, begun-reached (s .size) one n, length-drop)
 
-  pub held-counted : (es : List (Event A)) → heldAfter s es ≡ heldIn (marks s es)
+  pub held-counted : (es : List (Event A)) → heldAfter s es ≡ heldIn (fatesBy s es)
   held-counted es = held-frames es ∙ conserved s some es .count

@@ -1,11 +1,11 @@
 pub mod Counts
-pub mod Marks
+pub mod Fates
 pub mod Taken
 pub mod Lost
 pub mod Chip
 pub mod Whole
 pub mod Writes
-pub mod Told
+pub mod Holds
 pub mod Conserve
 pub mod Runs
 pub mod Wrong

@@ -9,8 +9,8 @@ use mathlib.Core.Path.{_≡_, refl, ap}
 use native.Mathlib.Omega.{arith}
 use lib.Dec.{ltb}
 use borrow.Author.Tests.{ltb-false, le-ltb}
-use Rattle.fifo.specs.Ledger.{Event, sample, readout, held, lost, marks}
-use Rattle.fifo.specs.Queue.{reached}
+use Rattle.fifo.specs.Ledger.{Event, sample, readout, held, lost, fatesBy}
+use Rattle.fifo.specs.Queue.{framesReached}
 use Rattle.fifo.specs.declared.Drop.{Drop}
 use Rattle.fifo.specs.declared.Drop.the-variants.{Newcomer, Oldest}
 use Rattle.fifo.specs.declared.Setting.{Setting}
@@ -18,8 +18,8 @@ use Rattle.fifo.proofs.Conserve.{conserved}
 use Rattle.history.specs.Counts.{arrivals, heldAfter}
 use Rattle.history.specs.Lost.{upTo, Saw, LostBy}
 use Rattle.history.proofs.Counts.{held-counted}
-use Rattle.history.proofs.Marks.{passed-lost, held-lost, takes-lost, arrives-lost}
-use Rattle.history.proofs.Taken.{fate, marked, shut-lost, kept, taken-in}
+use Rattle.history.proofs.Fates.{passed-lost, held-lost, takes-lost, arrives-lost}
+use Rattle.history.proofs.Taken.{fate, has-fate, shut-lost, kept, taken-in}
 
 arrivals-append : {A : Type 0} (xs ys : List (Event A)) → arrivals (xs ++ ys) ≡ arrivals xs + arrivals ys
 arrivals-append [] ys = omega arith
@@ -62,17 +62,17 @@ module _ {A : Type 0} (s : Setting) (some-deep : s .drops ≡ Oldest → 1 ≤ s
     was-passed : (later : List (Event A)) → fate s earlier a later ≡ some (lost a) → Passed later
     was-passed [] h =
         ⊎-elim (λ p. let z : _≡_ {A = ℕ} 0 1 = cc in absurd (omega arith)) (λ p. absurd (omega (arith, some-deep f, p .0)))
-        (passed-lost a (s .depth) 0 (held a ∷ marks s earlier) (rw f at h))
+        (passed-lost a (s .depth) 0 (held a ∷ fatesBy s earlier) (rw f at h))
     was-passed (sample b ∷ later) h =
         ⊎-elim (λ p. passed-more (sample b) later (was-passed later p))
         (λ p. record { rest = []; last = b; between = later; split = refl; arrived = p .0; then-held = p .1 })
-        (passed-lost a (s .depth) (suc (arrivals later)) (held b ∷ marks s (upTo s earlier a later)) (rw f at h))
-    was-passed (readout n ∷ later) h = passed-more (readout n) later (was-passed later (takes-lost a (reached (s .size) n) (arrivals later) (marks s (upTo s earlier a later)) .0 h))
+        (passed-lost a (s .depth) (suc (arrivals later)) (held b ∷ fatesBy s (upTo s earlier a later)) (rw f at h))
+    was-passed (readout n ∷ later) h = passed-more (readout n) later (was-passed later (takes-lost a (framesReached (s .size) n) (arrivals later) (fatesBy s (upTo s earlier a later)) .0 h))
 
     still-lost : (rest later : List (Event A)) → fate s earlier a later ≡ some (lost a) → fate s earlier a (rest ++ later) ≡ some (lost a)
     still-lost [] later h = h
-    still-lost (sample b ∷ rest) later h = arrives-lost (s .drops) (s .depth) a b (arrivals (rest ++ later)) (marks s (upTo s earlier a (rest ++ later))) (still-lost rest later h)
-    still-lost (readout n ∷ rest) later h = takes-lost a (reached (s .size) n) (arrivals (rest ++ later)) (marks s (upTo s earlier a (rest ++ later))) .1 (still-lost rest later h)
+    still-lost (sample b ∷ rest) later h = arrives-lost (s .drops) (s .depth) a b (arrivals (rest ++ later)) (fatesBy s (upTo s earlier a (rest ++ later))) (still-lost rest later h)
+    still-lost (readout n ∷ rest) later h = takes-lost a (framesReached (s .size) n) (arrivals (rest ++ later)) (fatesBy s (upTo s earlier a (rest ++ later))) .1 (still-lost rest later h)
 
     saw : (later : List (Event A)) → fate s earlier a later ≡ some (lost a) → Saw s earlier a (s .depth) later
     saw later h =
@@ -97,9 +97,9 @@ module _ {A : Type 0} (s : Setting) (some-deep : s .drops ≡ Oldest → 1 ≤ s
         let b = w .between in
         let i : arrivals b < s .depth = omega (arith, w .arrived) in
         let h : fate s earlier a b ≡ some (held a) =
-        ⊎-elim (λ t. absurd (w .unreached (taken-in s some-deep one earlier a b .0 t))) (⊎-elim (λ t. t) (λ t. absurd (then-held b i t))) (marked s some-deep one earlier a b) in
+        ⊎-elim (λ t. absurd (w .unreached (taken-in s some-deep one earlier a b .0 t))) (⊎-elim (λ t. t) (λ t. absurd (then-held b i t))) (has-fate s some-deep one earlier a b) in
         let l : fate s earlier a (sample (w .last) ∷ b) ≡ some (lost a) =
-        rw (f, ← w .arrived) (held-lost a (suc (arrivals b)) (held (w .last) ∷ marks s (upTo s earlier a b)) h) in
+        rw (f, ← w .arrived) (held-lost a (suc (arrivals b)) (held (w .last) ∷ fatesBy s (upTo s earlier a b)) h) in
         rw (w .split) (still-lost (w .rest) (sample (w .last) ∷ b) l)
 
   pub lost-in : (later : List (Event A)) → (fate s earlier a later ≡ some (lost a)) ↔ LostBy s earlier a (s .drops) later

@@ -13,7 +13,7 @@ use Rattle.fifo.specs.Store.{noFrames, pushedIn, readIn, bytesIn, countIn}
 use Rattle.channels.specs.Codes.{code}
 use Rattle.registers.specs.Deeds.{judgement, deedsOf, clears}
 use Rattle.registers.specs.Refused.{answerAt, readAnswer, reservedCode, notModelled}
-use Rattle.table.specs.Rows.{rowAt, rowOf, lineOf, listed, refusedBits, resetBytes}
+use Rattle.table.specs.Rows.{rowAt, rowOf, paperLineOf, listed, refusedBits, resetBytes}
 use Rattle.device.specs.Device.{powerUp, firstBytes}
 use Rattle.device.specs.Read.{readOf, bufferAfter, singleBytes, afterSingles, byteFrom}
 use Rattle.device.specs.Sample.{sampleAnswer, sampleOf, afterAccepted}
@@ -69,7 +69,7 @@ pub runs : Ran fifoRun 0x9F (lastFrame ∷ []) (firstFrame ∷ []) (counts 33 1 
     × Ran bypassRun 0x81 (firstFrame ∷ []) [] (counts 2 0 1 0)
     × Ran (write 0x3E 0xC0 ∷ bypassRun) 0x81 (firstFrame ∷ []) [] (counts 2 0 1 0)
     × Ran (write 0x14 0xB6 ∷ bypassRun) 0x00 [] [] (counts 2 0 1 1)
-unfolding samples dueStatus fates gave totals begun heldAfter twin since saysHere control clears readsOut frame after powerUp firstBytes resetBytes noFrames zeros writeOf written judgement deedsOf sampleOf afterAccepted pushedIn flatPushed movedForward readOf bufferAfter readIn flatRead bytesIn bytesRead firstOrZeros singleBytes afterSingles byteFrom shownByte countIn code modeOf axesOf sampleAnswer readAnswer answerAt reservedCode notModelled rowAt rowOf lineOf listed refusedBits
+unfolding samples dueStatus fates gave totals begun heldAfter twin since saysHere control clears readsOut frame after powerUp firstBytes resetBytes noFrames zeros writeOf written judgement deedsOf sampleOf afterAccepted pushedIn flatPushed movedForward readOf bufferAfter readIn flatRead bytesIn bytesRead firstOrZeros singleBytes afterSingles byteFrom shownByte countIn code modeOf axesOf sampleAnswer readAnswer answerAt reservedCode notModelled rowAt rowOf paperLineOf listed refusedBits
 runs = (
   record { told = refl; lost = refl; shown = refl; came = refl; tallied = refl },
   record { told = refl; lost = refl; shown = refl; came = refl; tallied = refl },

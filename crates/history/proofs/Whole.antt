@@ -10,8 +10,8 @@ use lib.ListN.{length, take, length-append, length-take}
 use borrow.Author.Tests.{eqb-true, eqb-false}
 use Rattle.laws.specs.Bits.{worth}
 use Rattle.fifo.specs.Ledger as ledger
-use Rattle.fifo.specs.Ledger.{Mark, marks, run, accepted, takenOf, heldOf, lostOf}
-use Rattle.fifo.specs.Queue.{reached}
+use Rattle.fifo.specs.Ledger.{Fate, fatesBy, run, acceptedSamples, takenOf, heldOf, lostOf}
+use Rattle.fifo.specs.Queue.{framesReached}
 use Rattle.fifo.specs.declared.Drop.the-variants.{Oldest}
 use Rattle.fifo.specs.declared.Setting.{Setting}
 use Rattle.fifo.proofs.Conserve.{conserved, numbers}
@@ -25,16 +25,16 @@ use Rattle.history.proofs.Chip.{isCleared, Lawful}
 -- ---- from one clear to the next
 -- the numbers of a span: accepted, taken, held and lost
 abbrev takenIn : Setting → List (ledger.Event (List ℕ)) → ℕ
-takenIn s es = length (takenOf (marks s es))
+takenIn s es = length (takenOf (fatesBy s es))
 
 abbrev lostIn : Setting → List (ledger.Event (List ℕ)) → ℕ
-lostIn s es = length (lostOf (marks s es))
+lostIn s es = length (lostOf (fatesBy s es))
 
 module _ (s : Setting) (deep : s .drops ≡ Oldest → 1 ≤ s .depth) (one : 1 ≤ s .size) where
-  add-up : (es : List (ledger.Event (List ℕ))) → length (accepted es) ≡ takenIn s es + heldAfter s es + lostIn s es
+  add-up : (es : List (ledger.Event (List ℕ))) → length (acceptedSamples es) ≡ takenIn s es + heldAfter s es + lostIn s es
   add-up es =
       let g = conserved s deep es in
-      ap length (sym (g .whole)) ∙ numbers (marks s es) ∙ omega (arith, held-counted s deep one es)
+      ap length (sym (g .whole)) ∙ numbers (fatesBy s es) ∙ omega (arith, held-counted s deep one es)
 
   pub few : (es : List (ledger.Event (List ℕ))) → heldAfter s es ≤ s .depth
   few es = omega (arith, held-counted s deep one es, conserved s deep es .few)
@@ -46,7 +46,7 @@ module _ (s : Setting) (deep : s .drops ≡ Oldest → 1 ≤ s .depth) (one : 1 
     taken-readout : (n : ℕ) → takenIn s (ledger.readout n ∷ es) ≡ takenIn s es + min (heldAfter s es) (begun (s .size) n)
     taken-readout n =
         let g = conserved s deep es in
-        let k = reached (s .size) n in
+        let k = framesReached (s .size) n in
         let l : length (take k (run s es .queue .frames)) ≡ min k (length (run s es .queue .frames)) = length-take k (run s es .queue .frames) in
         ap length (sym (conserved s deep (ledger.readout n ∷ es) .out)) ∙ length-append (run s es .out) (take k (run s es .queue .frames))
         ∙ omega (arith, ap length (g .out), l, g .count, held-counted s deep one es, begun-reached (s .size) one n)
@@ -55,8 +55,8 @@ module _ (s : Setting) (deep : s .drops ≡ Oldest → 1 ≤ s .depth) (one : 1 
     unfolding heldAfter
     lost-sample f = go (eqb (heldAfter s es) (s .depth)) refl
       where
-        more : length (accepted (ledger.sample f ∷ es)) ≡ suc (length (accepted es))
-        more = length-append (accepted es) (f ∷ []) ∙ omega arith
+        more : length (acceptedSamples (ledger.sample f ∷ es)) ≡ suc (length (acceptedSamples es))
+        more = length-append (acceptedSamples es) (f ∷ []) ∙ omega arith
 
         go : (t : Bool) → eqb (heldAfter s es) (s .depth) ≡ t → lostIn s (ledger.sample f ∷ es) ≡ lostIn s es + worth 1 t
         go true e = omega (arith, eqb-true (heldAfter s es) (s .depth) e, more, add-up es, add-up (ledger.sample f ∷ es), taken-sample f)
@@ -102,7 +102,7 @@ module _ (c : Chip) (es : List (c .Event)) (e : c .Event) (w : Said) (q : c .say
   unfolding totals
   next-totals = rw q
 
-  next-ends : (kind : List (Mark (List ℕ)) → List (List ℕ)) → atEnds c kind (e ∷ es) ≡ sum (map (λ h. length (kind (fates c h))) (andBefore w es (endings c es)))
+  next-ends : (kind : List (Fate (List ℕ)) → List (List ℕ)) → atEnds c kind (e ∷ es) ≡ sum (map (λ h. length (kind (fates c h))) (andBefore w es (endings c es)))
   unfolding endings
   next-ends kind = rw q
 
@@ -112,14 +112,14 @@ module _ (c : Chip) (es : List (c .Event)) (e : c .Event) (w : Said) (q : c .say
 
   -- with the setting that it leaves
   module _ (s : Setting) (same : c .setting (e ∷ es) ≡ s) where
-    next-fates : fates c (e ∷ es) ≡ marks s (onto w (since c es))
+    next-fates : fates c (e ∷ es) ≡ fatesBy s (onto w (since c es))
     unfolding fates
-    next-fates = (λ i. marks (same i) (next-since i))
+    next-fates = (λ i. fatesBy (same i) (next-since i))
 
     pub next-held : heldNow c (e ∷ es) ≡ heldAfter s (onto w (since c es))
     next-held = (λ i. heldAfter (same i) (next-since i))
 
-same-ends : (c : Chip) (kind : List (Mark (List ℕ)) → List (List ℕ)) (w : Said) (es : List (c .Event)) → isCleared w ≡ false
+same-ends : (c : Chip) (kind : List (Fate (List ℕ)) → List (List ℕ)) (w : Said) (es : List (c .Event)) → isCleared w ≡ false
     → sum (map (λ h. length (kind (fates c h))) (andBefore w es (endings c es))) ≡ atEnds c kind es
 same-ends c kind cleared es o = cc
 same-ends c kind (sampled f) es o = refl
@@ -158,7 +158,7 @@ module _ (c : Chip) (law : Lawful c) where
         let f = next-fates c es e w q (c .setting es) same in
         let h = next-held c es e w q (c .setting es) same in
         let g = grew (c .setting es) (law .some-deep es) (law .one es) (since c es) (totals c es) w o in
-        let k : (kind : List (Mark (List ℕ)) → List (List ℕ)) → atEnds c kind (e ∷ es) ≡ atEnds c kind es = λ kind. ends kind ∙ same-ends c kind w es o in
+        let k : (kind : List (Fate (List ℕ)) → List (List ℕ)) → atEnds c kind (e ∷ es) ≡ atEnds c kind es = λ kind. ends kind ∙ same-ends c kind w es o in
         record {
           whole = omega (arith, i .whole, g .whole, ap (λ n. n .accepted) t, ap (λ n. n .taken) t, ap (λ n. n .lost) t, ap (λ n. n .clearedAway) t, h);
           taken = omega (arith, i .taken, g .taken, ap (λ n. n .taken) t, k takenOf, ap (λ m. length (takenOf m)) f);

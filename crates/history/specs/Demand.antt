@@ -11,14 +11,14 @@ use Rattle.laws.specs.Bits.{bit, worth}
 use Rattle.laws.specs.Bytes.{firstOrZeros}
 use Rattle.fifo.specs.Flat.{flat}
 use Rattle.fifo.specs.Ledger as fifo
-use Rattle.fifo.specs.Ledger.{Mark, marks, allOf, takenOf, heldOf, lostOf}
+use Rattle.fifo.specs.Ledger.{Fate, fatesBy, allOf, takenOf, heldOf, lostOf}
 use Rattle.fifo.specs.declared.Setting.{Setting}
 use Rattle.history.specs.Chip.{Said, cleared, sampled, readOut, nothing, Chip, Twin, since}
 use Rattle.history.specs.Counts.{arrivals, begun, heldAfter}
-use Rattle.history.specs.Lost.{Reached, LostBy}
+use Rattle.history.specs.Lost.{ReadoutReached, LostBy}
 
 -- the samples that are not lost, the oldest first
-abbrev pub notLost : {A : Type 0} → List (Mark A) → List A
+abbrev pub notLost : {A : Type 0} → List (Fate A) → List A
 notLost [] = []
 notLost (fifo.taken a ∷ ms) = notLost ms ++ (a ∷ [])
 notLost (fifo.held a ∷ ms) = notLost ms ++ (a ∷ [])
@@ -34,7 +34,7 @@ pub record Readout : Type 0 where
 unfoldable pub readouts : Setting → List (fifo.Event (List ℕ)) → List Readout
 readouts s [] = []
 readouts s (fifo.sample f ∷ es) = readouts s es
-readouts s (fifo.readout n ∷ es) = readouts s es ++ (record { bytes = n; frames = take (begun (s .size) n) (heldOf (marks s es)) } ∷ [])
+readouts s (fifo.readout n ∷ es) = readouts s es ++ (record { bytes = n; frames = take (begun (s .size) n) (heldOf (fatesBy s es)) } ∷ [])
 
 -- the frames that they take, in order
 abbrev pub framesOf : List Readout → List (List ℕ)
@@ -53,9 +53,9 @@ gaveBy bytes (readOut n) out = out ++ (bytes n ∷ [])
 gaveBy bytes nothing out = out
 
 module _ (c : Chip) where
-  -- what became of each sample accepted since the last clear, the latest first: a mark is one of taken, held and lost
-  unfoldable pub fates : List (c .Event) → List (Mark (List ℕ))
-  fates es = marks (c .setting es) (since c es)
+  -- what became of each sample accepted since the last clear, the latest first: a fate is one of taken, held and lost
+  unfoldable pub fates : List (c .Event) → List (Fate (List ℕ))
+  fates es = fatesBy (c .setting es) (since c es)
 
   -- the bytes that the readouts since the last clear gave, readout by readout
   unfoldable pub gave : Twin c → List (c .Event) → List (List ℕ)
@@ -68,15 +68,15 @@ module _ (c : Chip) where
 
   -- ---- the demand
   pub record Demand3 (t : Twin c) (es : List (c .Event)) : Type 0 where
-    -- "Each is exactly one of taken by a readout, still held, or lost": it has its mark, in its place
-    pub each : allOf (fates es) ≡ fifo.accepted (since c es)
-    pub numbers : length (fifo.accepted (since c es)) ≡ length (takenOf (fates es)) + length (heldOf (fates es)) + length (lostOf (fates es))
+    -- "Each is exactly one of taken by a readout, still held, or lost": it has its fate, in its place
+    pub each : allOf (fates es) ≡ fifo.acceptedSamples (since c es)
+    pub numbers : length (fifo.acceptedSamples (since c es)) ≡ length (takenOf (fates es)) + length (heldOf (fates es)) + length (lostOf (fates es))
     -- the taken, and behind them the held, are in order the samples that are not lost
     pub order : takenOf (fates es) ++ heldOf (fates es) ≡ notLost (fates es)
     -- taken: exactly when a readout reached the first byte of its frame while it was held. Of each sample, with what came before it
     -- and after it
     pub taken : (later earlier : List (fifo.Event (List ℕ))) (f : List ℕ) → since c es ≡ later ++ (fifo.sample f ∷ earlier)
-        → (getElem? (fates es) (arrivals later) ≡ some (fifo.taken f)) ↔ Reached (c .setting es) earlier f later
+        → (getElem? (fates es) (arrivals later) ≡ some (fifo.taken f)) ↔ ReadoutReached (c .setting es) earlier f later
     -- "In FIFO mode the lost are those that arrived while 32 were held; in STREAM mode .. those that saw 32 later accepted samples
     -- arrive before a readout reached them", with the chip's depth for 32
     pub lost : (later earlier : List (fifo.Event (List ℕ))) (f : List ℕ) → since c es ≡ later ++ (fifo.sample f ∷ earlier)

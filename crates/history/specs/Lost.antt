@@ -20,7 +20,7 @@ module _ {A : Type 0} (s : Setting) (earlier : List (Event A)) (a : A) where
   frameNumber = entered s earlier
 
   -- a readout in `later` reached the first byte of its frame while it was held: "A frame counts as taken once its first byte is read"
-  pub record Reached (later : List (Event A)) : Type 0 where
+  pub record ReadoutReached (later : List (Event A)) : Type 0 where
     pub rest : List (Event A)
     pub bytes : ℕ
     pub before : List (Event A)
@@ -38,7 +38,7 @@ module _ {A : Type 0} (s : Setting) (earlier : List (Event A)) (a : A) where
     pub between : List (Event A)
     pub split : later ≡ rest ++ (sample last ∷ between)
     pub arrived : suc (arrivals between) ≡ many
-    pub unreached : Reached between → ⊥
+    pub unreached : ReadoutReached between → ⊥
 
   -- lost, by the drop rule: "those that arrived while 32 were held"; "those that saw 32 later accepted samples arrive .."
   abbrev pub LostBy : Drop → List (Event A) → Type 0

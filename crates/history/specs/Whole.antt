@@ -5,7 +5,7 @@ use mathlib.Core.Path.{_≡_}
 use lib.Dec.{eqb}
 use lib.ListN.{length}
 use Rattle.laws.specs.Bits.{worth}
-use Rattle.fifo.specs.Ledger.{Mark, takenOf, heldOf, lostOf}
+use Rattle.fifo.specs.Ledger.{Fate, takenOf, heldOf, lostOf}
 use Rattle.fifo.specs.declared.Setting.{Setting}
 use Rattle.history.specs.Chip.{Said, cleared, sampled, readOut, nothing, Chip, since}
 use Rattle.history.specs.Counts.{begun, heldAfter}
@@ -54,7 +54,7 @@ module _ (c : Chip) where
   endings (e ∷ es) = andBefore (c .says es e) es (endings es)
 
   -- so many of a kind, at each of those ends
-  abbrev pub atEnds : (List (Mark (List ℕ)) → List (List ℕ)) → List (c .Event) → ℕ
+  abbrev pub atEnds : (List (Fate (List ℕ)) → List (List ℕ)) → List (c .Event) → ℕ
   atEnds kind es = sum (map (λ h. length (kind (fates c h))) (endings es))
 
   pub record OverClears (es : List (c .Event)) : Type 0 where

@@ -1,2 +1,2 @@
 pub mod Levels
-pub mod Lines
+pub mod Maps

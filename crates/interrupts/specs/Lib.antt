@@ -1,3 +1,3 @@
 pub mod Statuses
-pub mod Lines
+pub mod Maps
 pub mod Pins

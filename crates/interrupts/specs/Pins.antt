@@ -6,7 +6,7 @@ use lib.ListN.{getD}
 use Rattle.laws.specs.Choice.{pick}
 use Rattle.laws.specs.Bits.{bit}
 use Rattle.codes.specs.Addresses.{driveAt}
-use Rattle.interrupts.specs.Lines.{isActive}
+use Rattle.interrupts.specs.Maps.{isActive}
 use Rattle.interrupts.specs.declared.Statuses.{Statuses}
 use Rattle.interrupts.specs.declared.Pin.{Pin}
 use Rattle.interrupts.specs.declared.Pin.the-variants.{Int1, Int2}

@@ -2,7 +2,7 @@
 ghost use mathlib.Core.Path.{_≡_};
 ghost use Rattle.laws.specs.Bits.{worth};
 ghost use Rattle.interrupts.specs.Statuses as statuses;
-ghost use Rattle.interrupts.specs.Lines.{statusByte, isActive, mappedTo, anyMapped};
+ghost use Rattle.interrupts.specs.Maps.{statusByte, isActive, mappedTo, anyMapped};
 ghost use Rattle.interrupts.specs.Pins as pins;
 use codes::DRIVE_AT;
 use codes::ENABLES_AT;

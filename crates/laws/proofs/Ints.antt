@@ -49,8 +49,8 @@ not-below (pos n) e = tt
 not-below (negsuc n) e = let z : _≡_ {A = ℕ} 0 1 = cc in absurd (omega arith)
 
 -- a number of 16 bits that a field holds
-pub held : (z : ℤ) → mag z < 32768 → toZ w16 (ofZ w16 z) ≡ z
-held z h = toZ-ofZ (record { sfits = h })
+pub same-in-16-bits : (z : ℤ) → mag z < 32768 → toZ w16 (ofZ w16 z) ≡ z
+same-in-16-bits z h = toZ-ofZ (record { sfits = h })
 
 -- a number of 16 bits, taken to 32
 pub wide : {z : ℤ} → SFits w16 z → toZ w32 (ofZ w32 (toZ w16 (ofZ w16 z))) ≡ z

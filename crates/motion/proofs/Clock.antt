@@ -7,7 +7,7 @@ use native.Mathlib.Omega.{arith}
 use borrow.Author.Tests.{eqb-true, eqb-false, ltb-true, ltb-false}
 use lib.Dec.{eqb, ltb}
 use Rattle.alarm.specs.Alarm.{Marked, waited}
-use Rattle.alarm.proofs.Laws.{idle, stands, reached, none-passes}
+use Rattle.alarm.proofs.Laws.{idle, stands, time-reached, none-passes}
 use Rattle.motion.specs.Detector.{restarted, clocked}
 use Rattle.motion.specs.declared.Motion.{Motion}
 use Rattle.motion.proofs.Laws.{marked-restart}
@@ -29,7 +29,7 @@ module _ (m : Motion) where
   -- "when the clock since its setting reaches that time": "with marks and runs"
   pub clocked-reached : (us : ℕ) → ¬ (m .alarm .remaining ≡ 0) → m .alarm .remaining ≤ us → clocked us m ≡ restarted m
   unfolding clocked
-  clocked-reached us h k = rw (reached us (m .alarm) h k)
+  clocked-reached us h k = rw (time-reached us (m .alarm) h k)
 
 -- a clock of 0 changes nothing
 pub clocked-none : (m : Motion) → clocked 0 m ≡ m

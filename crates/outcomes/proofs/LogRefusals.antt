@@ -16,7 +16,7 @@ use Rattle.benchlog.specs.Answers.{foundNumber, beginsNumber, roomNumber}
 use Rattle.benchlog.specs.Format.{lengthOfKind, encode, versionBytes}
 use Rattle.benchlog.specs.Reader.{unfit, wrongLength, entryRows, versionRows, readAt, readVersion}
 use Rattle.benchlog.specs.Writer.{written}
-use Rattle.benchlog.specs.Whole.{Bytes, Proper}
+use Rattle.benchlog.specs.Whole.{Bytes, FieldsFit}
 use Rattle.benchlog.specs.declared.Entry.{Entry}
 use Rattle.benchlog.specs.declared.Entry.the-variants as entry
 use Rattle.benchlog.specs.declared.Read.{Read}
@@ -161,17 +161,17 @@ module _ (log : List ℕ) (place : ℕ) where
   end-when = (found-end place (drop place log), λ e. rw e (ap (λ (r : Read). r .found) (head-end place)))
 
   -- a record is found exactly where its bytes stand
-  pub record-when : Bytes log → (e : Entry) → (readAt log place .found ≡ Record e) ↔ (Proper e × BeginsWith (spelled e) (drop place log))
+  pub record-when : Bytes log → (e : Entry) → (readAt log place .found ≡ Record e) ↔ (FieldsFit e × BeginsWith (spelled e) (drop place log))
   record-when h e = (there, found)
     where
-      there : readAt log place .found ≡ Record e → Proper e × BeginsWith (spelled e) (drop place log)
+      there : readAt log place .found ≡ Record e → FieldsFit e × BeginsWith (spelled e) (drop place log)
       there f =
           let n = readAt log place .next - place in
           let s = drop place log in
           let front : spelled e ≡ take n s = sym (encode-spelled e) ∙ read-written-at log place h e f in
           (read-proper-at log place h e f, record { rest = drop n s; is = sym (ap (λ (l : List ℕ). l ++ drop n s) front ∙ take-append-drop n s) })
 
-      found : Proper e × BeginsWith (spelled e) (drop place log) → readAt log place .found ≡ Record e
+      found : FieldsFit e × BeginsWith (spelled e) (drop place log) → readAt log place .found ≡ Record e
       found p = rw (p .1 .is, ← encode-spelled e) (ap (λ (r : Read). r .found) (written-read e place (p .1 .rest) (p .0)))
 
 -- ---- 10

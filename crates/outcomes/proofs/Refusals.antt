@@ -19,7 +19,7 @@ use Rattle.codes.specs.Addresses.{framesAt, latchAt}
 use Rattle.codes.specs.Mode.{modeOf}
 use Rattle.codes.specs.Range.{rangeOf}
 use Rattle.channels.specs.Codes.{inRange}
-use Rattle.table.specs.Rows.{rowAt, rowOf, lineOf, listed, refusedBits, reservedAddresses}
+use Rattle.table.specs.Rows.{rowAt, rowOf, paperLineOf, listed, refusedBits, reservedAddresses}
 use Rattle.registers.specs.Answers.{number, accepted}
 use Rattle.registers.specs.Deeds.{judgement}
 use Rattle.registers.specs.Refused.{reservedCode, notModelled, lackAt, writeRows, readRows, answerAt, writeAnswer, readAnswer}
@@ -42,7 +42,7 @@ use Rattle.benchlog.specs.declared.Room.the-variants as room
 use Rattle.benchlog.proofs.Exactly.{read-answers, version-answers, write-answers}
 use Rattle.outcomes.specs.Numbers.{AboveLast, ReservedWrite, DetectorWrite, PowerModeWrite, TestOrTrimWrite, LackingWrite, SomeOutside, WrongReadLength, Passing}
 use Rattle.outcomes.specs.Numbers.{isReservedWrite, isDetectorWrite, isPowerModeWrite, isTestOrTrimWrite, answersTo, NothingElse}
-use Rattle.outcomes.proofs.Words.{Means, no, when, told, isnt, likewise, last, less, equal, and, or, reserved-is, last-row, some-number, detector-is, power-mode-is, test-or-trim-is, outside}
+use Rattle.outcomes.proofs.Words.{Means, no, when, same-test, isnt, likewise, last, less, equal, and, or, reserved-is, last-row, some-number, detector-is, power-mode-is, test-or-trim-is, outside}
 
 -- ---- exactly when the rows say
 -- the rows of a write have different numbers, and none is 0, whichever is the register's
@@ -88,7 +88,7 @@ module _ (d : Device) (a byte : ℕ) (fits : byte < 256) where
   within h = omega arith
 
   is-reserved : ¬ AboveLast a → Means (reservedCode (d .regs) a byte) (ReservedWrite a byte)
-  is-reserved h = told (reserved-is (d .regs) a byte (within h) fits)
+  is-reserved h = same-test (reserved-is (d .regs) a byte (within h) fits)
 
   abbrev lacking : Bool
   lacking = notModelled (d .regs) (rowAt a) a byte
@@ -98,13 +98,13 @@ module _ (d : Device) (a byte : ℕ) (fits : byte < 256) where
   numbered n = eqb n (number (lackAt a))
 
   is-detector : ¬ AboveLast a → Means (both (numbered 11) lacking) (DetectorWrite a byte)
-  is-detector h = told (detector-is (d .regs) a byte (within h) fits)
+  is-detector h = same-test (detector-is (d .regs) a byte (within h) fits)
 
   is-power-mode : ¬ AboveLast a → Means (both (numbered 12) lacking) (PowerModeWrite a byte)
-  is-power-mode h = told (power-mode-is (d .regs) a byte (within h) fits)
+  is-power-mode h = same-test (power-mode-is (d .regs) a byte (within h) fits)
 
   is-test-or-trim : ¬ AboveLast a → Means (both (numbered 13) lacking) (TestOrTrimWrite a byte)
-  is-test-or-trim h = told (test-or-trim-is (d .regs) a byte (within h) fits)
+  is-test-or-trim h = same-test (test-or-trim-is (d .regs) a byte (within h) fits)
 
   is-lacking : ¬ AboveLast a → Means lacking (LackingWrite a byte)
   is-lacking h = likewise (some-number a lacking) (or (is-detector h) (or (is-power-mode h) (is-test-or-trim h)))
@@ -247,5 +247,5 @@ pub each-given : (d : Device)
     roomNumber (written [] 0 (1 ∷ []) .room) ∷
     number (writeOf d 0x18 0x04 .answer) ∷ number (writeOf d 0x11 0x20 .answer) ∷ number (writeOf d 0x38 0x01 .answer) ∷ []
     ≡ 0 ∷ 1 ∷ 2 ∷ 4 ∷ 5 ∷ 6 ∷ 7 ∷ 8 ∷ 9 ∷ 10 ∷ 11 ∷ 12 ∷ 13 ∷ []
-unfolding writeOf judgement answerAt reservedCode rangeOf modeOf notModelled lackAt rowAt rowOf lineOf listed refusedBits reservedAddresses readOf readAnswer sampleOf sampleAnswer readVersion readHead foundIn roomFor
+unfolding writeOf judgement answerAt reservedCode rangeOf modeOf notModelled lackAt rowAt rowOf paperLineOf listed refusedBits reservedAddresses readOf readAnswer sampleOf sampleAnswer readVersion readHead foundIn roomFor
 each-given d = refl

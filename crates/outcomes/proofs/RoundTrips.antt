@@ -11,7 +11,7 @@ use lib.Seq.{length-take-le, take-at, take-append-seam, drop-at, drop-drop, drop
 use Rattle.benchlog.specs.Format.{versionBytes}
 use Rattle.benchlog.specs.Reader.{whole, readAt, readVersion}
 use Rattle.benchlog.specs.Writer.{roomFor, placed, written, outAfter}
-use Rattle.benchlog.specs.Whole.{Bytes, Proper, AllProper}
+use Rattle.benchlog.specs.Whole.{Bytes, FieldsFit, AllFieldsFit}
 use Rattle.benchlog.specs.declared.Entry.{Entry}
 use Rattle.benchlog.specs.declared.Room.the-variants.{Done}
 use Rattle.benchlog.specs.declared.Begins.the-variants.{Version}
@@ -54,7 +54,7 @@ module _ (bytes out : List ℕ) (place : ℕ) (room : place + length bytes ≤ l
       })
 
 -- ---- a record
-once-written : (e : Entry) → Proper e → (out : List ℕ) (place : ℕ) → place + length (spelled e) ≤ length out → WrittenThenRead e out place
+once-written : (e : Entry) → FieldsFit e → (out : List ℕ) (place : ℕ) → place + length (spelled e) ≤ length out → WrittenThenRead e out place
 once-written e p out place room = record {
   writes = rw (encode-spelled e) (writes-just (spelled e) out place room);
   reads = written-read-at out place e p (rw (encode-spelled e) (writes-just (spelled e) out place room .done));
@@ -85,18 +85,18 @@ module _ (log : List ℕ) (bytes : Bytes log) (place : ℕ) (e : Entry) (found :
   }
 
 -- ---- a whole log is read
-finds-next : (before rest : List ℕ) (e : Entry) → Proper e → readAt (before ++ (spelled e ++ rest)) (length before) ≡ whole e (length before + length (spelled e))
+finds-next : (before rest : List ℕ) (e : Entry) → FieldsFit e → readAt (before ++ (spelled e ++ rest)) (length before) ≡ whole e (length before + length (spelled e))
 finds-next before rest e p =
     rw (drop-at before (spelled e ++ rest) (length before) refl, ← encode-spelled e) (written-read e (length before) rest p)
 
-finds-all : (es : List Entry) → AllProper es → (before : List ℕ) → FindsAll (before ++ allSpelled es) (length before) es
+finds-all : (es : List Entry) → AllFieldsFit es → (before : List ℕ) → FindsAll (before ++ allSpelled es) (length before) es
 finds-all [] p before = rw (append-nil before, drop-length before, head-end (length before))
 finds-all (e ∷ es) p before =
     let on = finds-all es (p .1) (before ++ spelled e) in
     rw (finds-next before (allSpelled es) e (p .0))
     (refl, rw (append-assoc before (spelled e) (allSpelled es), length-append before (spelled e)) at on)
 
-all-found : (log : List ℕ) → Bytes log → (es : List Entry) (place : ℕ) → FindsAll log place es → (drop place log ≡ allSpelled es) × AllProper es
+all-found : (log : List ℕ) → Bytes log → (es : List Entry) (place : ℕ) → FindsAll log place es → (drop place log ≡ allSpelled es) × AllFieldsFit es
 all-found log bytes [] place f = (found-end place (drop place log) f, tt)
 all-found log bytes (e ∷ es) place f =
     let one = once-read log bytes place e (f .0) in
@@ -105,7 +105,7 @@ all-found log bytes (e ∷ es) place f =
     let behind : drop n (drop place log) ≡ allSpelled es = drop-drop n place log ∙ ap (λ (k : ℕ). drop k log) (sym (one .next)) ∙ rest .0 in
     (sym (take-append-drop n (drop place log)) ∙ rw (one .here, behind), (one .fits, rest .1))
 
-log-found : (log : List ℕ) → Bytes log → (es : List Entry) → ReadsAs log es → (log ≡ logSpelled es) × AllProper es
+log-found : (log : List ℕ) → Bytes log → (es : List Entry) → ReadsAs log es → (log ≡ logSpelled es) × AllFieldsFit es
 log-found log bytes es r =
     let v = version-found log (r .0) in
     let all = all-found log bytes es 1 (rw (v .1) at r .1) in

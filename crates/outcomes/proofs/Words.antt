@@ -21,7 +21,7 @@ use Rattle.codes.specs.Range.{rangeOf}
 use Rattle.registers.specs.Answers.{number}
 use Rattle.registers.specs.Refused.{reservedCode, notModelled, lackAt}
 use Rattle.registers.proofs.Answers.{lack-any}
-use Rattle.table.specs.Rows.{rowAt, rowOf, lineOf, listed, refusedBits, reservedAddresses}
+use Rattle.table.specs.Rows.{rowAt, rowOf, paperLineOf, listed, refusedBits, reservedAddresses}
 use Rattle.outcomes.specs.Numbers.{isReservedWrite, isDetectorWrite, isPowerModeWrite, isTestOrTrimWrite, Outside}
 
 pub no : {X : Type 0} → false ≡ true → X
@@ -35,8 +35,8 @@ pub when : {n m : ℕ} {b : Bool} {P : Type 0} → eqb n m ≡ b → Means b P �
 when e w = let u = ways e in (λ p. w .0 (u .0 p), λ p. u .1 (w .1 p))
 
 -- b is the same test as c
-pub told : {b c : Bool} → b ≡ c → Means b (c ≡ true)
-told e = (λ p. sym e ∙ p, λ p. e ∙ p)
+pub same-test : {b c : Bool} → b ≡ c → Means b (c ≡ true)
+same-test e = (λ p. sym e ∙ p, λ p. e ∙ p)
 
 pub isnt : {b : Bool} {P : Type 0} → Means b P → Means (not b) (¬ P)
 isnt {b = true} w = (no, λ h. absurd (h (w .0 refl)))
@@ -125,15 +125,15 @@ module _ (regs : List ℕ) where
   lackNumbered n a b = both (eqb n (number (lackAt a))) (notModelled regs (rowAt a) a b)
 
   pub detector-is : (a b : ℕ) → a < 64 → b < 256 → lackNumbered 11 a b ≡ isDetectorWrite a b
-  unfolding notModelled lackAt rowAt rowOf lineOf listed refusedBits reservedAddresses isDetectorWrite bit
+  unfolding notModelled lackAt rowAt rowOf paperLineOf listed refusedBits reservedAddresses isDetectorWrite bit
   detector-is = everywhere (lackNumbered 11) isDetectorWrite refl
 
   pub power-mode-is : (a b : ℕ) → a < 64 → b < 256 → lackNumbered 12 a b ≡ isPowerModeWrite a b
-  unfolding notModelled lackAt rowAt rowOf lineOf listed refusedBits reservedAddresses isPowerModeWrite bit
+  unfolding notModelled lackAt rowAt rowOf paperLineOf listed refusedBits reservedAddresses isPowerModeWrite bit
   power-mode-is = everywhere (lackNumbered 12) isPowerModeWrite refl
 
   pub test-or-trim-is : (a b : ℕ) → a < 64 → b < 256 → lackNumbered 13 a b ≡ isTestOrTrimWrite a b
-  unfolding notModelled lackAt rowAt rowOf lineOf listed refusedBits reservedAddresses isTestOrTrimWrite bit
+  unfolding notModelled lackAt rowAt rowOf paperLineOf listed refusedBits reservedAddresses isTestOrTrimWrite bit
   test-or-trim-is = everywhere (lackNumbered 13) isTestOrTrimWrite refl
 
 -- ---- 4

@@ -7,7 +7,7 @@ use lib.ListN.{length, take, drop}
 use Rattle.benchlog.specs.Format.{encode, versionBytes}
 use Rattle.benchlog.specs.Reader.{readAt, readVersion}
 use Rattle.benchlog.specs.Writer.{written, outAfter}
-use Rattle.benchlog.specs.Whole.{Bytes, Proper, AllProper}
+use Rattle.benchlog.specs.Whole.{Bytes, FieldsFit, AllFieldsFit}
 use Rattle.benchlog.specs.declared.Entry.{Entry}
 use Rattle.benchlog.specs.declared.Written.{Written}
 use Rattle.benchlog.specs.declared.Room.the-variants.{Done}
@@ -45,7 +45,7 @@ pub record WrittenThenRead (e : Entry) (out : List ℕ) (place : ℕ) : Type 0 w
 
 -- "read and then written, the same bytes": those from the place to the next one, at any place of any lent bytes that have room for them
 pub record ReadThenWritten (log : List ℕ) (place : ℕ) (e : Entry) : Type 0 where
-  pub fits : Proper e
+  pub fits : FieldsFit e
   pub next : readAt log place .next ≡ place + length (spelled e)
   pub here : take (length (spelled e)) (drop place log) ≡ spelled e
   pub writes : (out : List ℕ) (at : ℕ) → at + length (spelled e) ≤ length out
@@ -81,12 +81,12 @@ leftByLog out es = leftByAll (versionLeaves out 0) (versionAnswers out 0 .next) 
 -- ---- the round trips
 pub record RoundTrips : Type 0 where
   -- of a record whose fields fit, in any lent bytes that have room for it from any place on; and of any record that is found in bytes
-  pub written-read : (e : Entry) → Proper e → (out : List ℕ) (place : ℕ) → place + length (spelled e) ≤ length out → WrittenThenRead e out place
+  pub written-read : (e : Entry) → FieldsFit e → (out : List ℕ) (place : ℕ) → place + length (spelled e) ≤ length out → WrittenThenRead e out place
   pub read-written : (log : List ℕ) → Bytes log → (place : ℕ) (e : Entry) → readAt log place .found ≡ Record e → ReadThenWritten log place e
   -- of a log: one that is spelled reads as its records and then the end
-  pub spelled-reads : (es : List Entry) → AllProper es → ReadsAs (logSpelled es) es
+  pub spelled-reads : (es : List Entry) → AllFieldsFit es → ReadsAs (logSpelled es) es
   -- one that reads as records and then the end is spelled, of these records
-  pub reads-spelled : (log : List ℕ) → Bytes log → (es : List Entry) → ReadsAs log es → (log ≡ logSpelled es) × AllProper es
+  pub reads-spelled : (log : List ℕ) → Bytes log → (es : List Entry) → ReadsAs log es → (log ≡ logSpelled es) × AllFieldsFit es
   -- and one that is written, record by record, where there is room for it, is spelled; the bytes behind it are as they were
   pub writes-spelled : (es : List Entry) (out : List ℕ) → length (logSpelled es) ≤ length out
       → leftByLog out es ≡ logSpelled es ++ drop (length (logSpelled es)) out

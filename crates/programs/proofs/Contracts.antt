@@ -1,7 +1,7 @@
 -- The contracts of the two pumps, as the toolchain reads them from the source, are those that the meaning of a status is made of.
 -- Assumes nothing.
 use mathlib.Core.Path.{_≡_, refl}
-use Rattle.laws.specs.Outcome.{Written, promised}
+use Rattle.laws.specs.Outcome.{SourceClauses, promised}
 use Rattle.playback.specs.Replay as replay
 use Rattle.answers.specs.Answer as answer
 use Rattle.jobs.specs.Job.{toReplay, toAnswer}
@@ -10,13 +10,13 @@ use Rattle.stream.proofs.pump_replay as pump-replay
 use Rattle.stream.proofs.pump_answer as pump-answer
 use Rattle.stream.proofs.status_of as status-of
 
-pub replay-contract : _≡_ {A = Written pump-replay.ended} (λ M. pump-replay.clauses)
+pub replay-contract : _≡_ {A = SourceClauses pump-replay.ended} (λ M. pump-replay.clauses)
     (promised pump-replay.ended (λ κs a r e. let pins = a .1 .1 .0 in PumpedAs (replay.printed pins) (toReplay pins) (r .how) (r .whole)))
 replay-contract = refl
 
-pub answer-contract : _≡_ {A = Written pump-answer.ended} (λ M. pump-answer.clauses)
+pub answer-contract : _≡_ {A = SourceClauses pump-answer.ended} (λ M. pump-answer.clauses)
     (promised pump-answer.ended (λ κs a r e. let asked = a .1 .1 .0 in PumpedAs (answer.printed asked) (toAnswer asked) (r .how) (r .whole)))
 answer-contract = refl
 
-pub status-contract : _≡_ {A = Written status-of.ended} (λ M. status-of.clauses) (promised status-of.ended (λ κs a r e. r ≡ statusOf (a .0)))
+pub status-contract : _≡_ {A = SourceClauses status-of.ended} (λ M. status-of.clauses) (promised status-of.ended (λ κs a r e. r ≡ statusOf (a .0)))
 status-contract = refl

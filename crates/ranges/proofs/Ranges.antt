@@ -16,7 +16,7 @@ use Rattle.codes.specs.Addresses.{rangeAt}
 use Rattle.codes.specs.Range.{rangeOf, isReservedRange}
 use Rattle.codes.specs.declared.Range.{Range}
 use Rattle.codes.specs.declared.Range.the-variants.{G2, G4, G8, G16, Reserved}
-use Rattle.table.specs.Rows.{rowAt, rowOf, lineOf, listed, refusedBits}
+use Rattle.table.specs.Rows.{rowAt, rowOf, paperLineOf, listed, refusedBits}
 use Rattle.registers.specs.Answers.{number, accepted}
 use Rattle.registers.specs.Refused.{reservedCode, notModelled, answerAt, writeAnswer}
 use Rattle.registers.specs.declared.Answer.the-variants.{Done, ReservedCode}
@@ -114,7 +114,7 @@ module _ (es : List Event) where
 
 -- ---- the others
 answer-at : (regs : List ℕ) (byte : ℕ) → writeAnswer regs rangeAt byte ≡ pick (isReservedRange (rangeOf byte)) ReservedCode Done
-unfolding answerAt reservedCode notModelled rowAt rowOf lineOf listed refusedBits
+unfolding answerAt reservedCode notModelled rowAt rowOf paperLineOf listed refusedBits
 answer-at regs byte = rw (and-zero-r byte)
 
 refused-none : (r : Range) → (number (pick (isReservedRange r) ReservedCode Done) ≡ 2) ↔ (inG r ≡ 0)

@@ -57,7 +57,7 @@ judgementAt regs r a b = record { answer = answerAt regs r a b; deeds = deedsWhe
 unfoldable pub judgement : List ℕ → ℕ → ℕ → Judged
 judgement regs a b = judgementAt regs (rowAt a) a b
 
--- which writes, refused ones too, clear the FIFO: "Every accepted write to 0x3E .. empties the FIFO and clears overrun; so does soft
--- reset"
+-- whether a write clears the FIFO, by its address and its byte alone: "Every accepted write to 0x3E .. empties the FIFO and clears overrun; so
+-- does soft reset". A write to 0x3E that is refused, which is one of the reserved mode, does not
 unfoldable pub clears : ℕ → ℕ → Bool
 clears a b = either (both (eqb a controlAt) (not (isReservedMode (modeOf b)))) (isReset a b)

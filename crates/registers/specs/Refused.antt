@@ -6,7 +6,7 @@ use lib.Dec.{eqb, ltb}
 use lib.Bits.{bitAnd}
 use Rattle.laws.specs.Choice.{pick, both, either}
 use Rattle.laws.specs.Keys.{Key, _means_, meaningOf}
-use Rattle.laws.specs.Refusals.{Row, row, first}
+use Rattle.laws.specs.Refusals.{AnswerRow, row, first}
 use Rattle.codes.specs.Addresses.{rangeAt, powerAt, axesAt, enablesAt, slowAt, controlAt, framesAt}
 use Rattle.codes.specs.Range.{rangeOf, isReservedRange}
 use Rattle.codes.specs.Mode.{modeOf, isReservedMode}
@@ -43,14 +43,14 @@ unfoldable pub lackAt : ℕ → Answer
 lackAt a = meaningOf lacks NoTestOrTrim a
 
 -- "A write tests 1, 2, 3", and Q-1: "A write touches one register, so all stand in 3's place"
-abbrev pub writeRows : List ℕ → table.Row → ℕ → ℕ → List (Row Answer)
+abbrev pub writeRows : List ℕ → table.Row → ℕ → ℕ → List (AnswerRow Answer)
 writeRows regs r a b =
     row NoAddress (ltb framesAt a) ∷
     row ReservedCode (reservedCode regs a b) ∷
     row (lackAt a) (notModelled regs r a b) ∷ []
 
 -- "a read tests 1, 5, 6": of n bytes from the address a
-abbrev pub readRows : ℕ → ℕ → List (Row Answer)
+abbrev pub readRows : ℕ → ℕ → List (AnswerRow Answer)
 readRows a n =
     row NoAddress (ltb framesAt a) ∷
     row BadLength (either (eqb n 0) (ltb longestRead n)) ∷

@@ -5,7 +5,7 @@ use mathlib.Core.List.{List, [], _∷_, _++_}
 use mathlib.Core.Path.{_≡_, refl, subst}
 use lib.ListN.{length}
 use Rattle.benchlog.specs.Reader.{readAt, readVersion}
-use Rattle.benchlog.specs.Whole.{Bytes, Proper, AllProper, AllRead, andThen, readFrom, behindVersion, readLog}
+use Rattle.benchlog.specs.Whole.{Bytes, FieldsFit, AllFieldsFit, AllRead, andThen, readFrom, behindVersion, readLog}
 use Rattle.benchlog.specs.declared.Begins.{Begins}
 use Rattle.benchlog.specs.declared.Begins.the-variants as begins
 use Rattle.benchlog.specs.declared.Entry.{Entry}
@@ -18,8 +18,8 @@ use Rattle.entries.specs.Entries.{eventOf}
 use Rattle.rules.specs.Stored.{ByteWrites}
 use Rattle.replayed.specs.Events.{recordsIn, eventsBehind, eventsOf}
 
--- a proper record, and many
-entry-bytes : (r : Entry) → Proper r → (es : List Event) → ByteWrites es → ByteWrites (eventOf r ∷ es)
+-- a record whose fields fit, and many
+entry-bytes : (r : Entry) → FieldsFit r → (es : List Event) → ByteWrites es → ByteWrites (eventOf r ∷ es)
 unfolding eventOf
 entry-bytes (entry.Write w) p es b = (p .1, b)
 entry-bytes (entry.Read q) p es b = b
@@ -27,7 +27,7 @@ entry-bytes (entry.Sample s) p es b = b
 entry-bytes (entry.CycleStart c) p es b = b
 entry-bytes (entry.Clock k) p es b = b
 
-entries-bytes : (rs : List Entry) → AllProper rs → (es : List Event) → ByteWrites es → ByteWrites (eventsBehind es rs)
+entries-bytes : (rs : List Entry) → AllFieldsFit rs → (es : List Event) → ByteWrites es → ByteWrites (eventsBehind es rs)
 entries-bytes [] p es b = b
 entries-bytes (r ∷ rs) p es b = entries-bytes rs (p .1) (eventOf r ∷ es) (entry-bytes r (p .0) es b)
 
@@ -42,25 +42,25 @@ earlier-writes (cycle ∷ later) es b = earlier-writes later es b
 earlier-writes (clock us ∷ later) es b = earlier-writes later es b
 
 module _ (log : List ℕ) (bytes : Bytes log) where
-  -- what is read of a log is proper, wherever it stops
-  proper-from : (n place : ℕ) → AllProper (readFrom n log place .entries)
+  -- the fields of what is read of a log fit, wherever it stops
+  proper-from : (n place : ℕ) → AllFieldsFit (readFrom n log place .entries)
   proper-from zero place = tt
   proper-from (suc n) place = go (proper-from n (readAt log place .next)) (readAt log place .found) refl
     where
       rest : AllRead
       rest = readFrom n log (readAt log place .next)
 
-      go : AllProper (rest .entries) → (f : Found) → readAt log place .found ≡ f → AllProper (andThen f rest .entries)
+      go : AllFieldsFit (rest .entries) → (f : Found) → readAt log place .found ≡ f → AllFieldsFit (andThen f rest .entries)
       go later (found.Record r) q = (read-proper-at log place bytes r q, later)
       go later found.End q = tt
       go later found.WrongRecord q = tt
       go later found.Cut q = tt
 
-  log-proper : AllProper (recordsIn (readLog log))
+  log-proper : AllFieldsFit (recordsIn (readLog log))
   unfolding readLog
   log-proper = go (readVersion log .begins)
     where
-      go : (b : Begins) → AllProper (recordsIn (behindVersion b (readFrom (length log) log (readVersion log .next))))
+      go : (b : Begins) → AllFieldsFit (recordsIn (behindVersion b (readFrom (length log) log (readVersion log .next))))
       go begins.Version = proper-from (length log) (readVersion log .next)
       go begins.WrongVersion = tt
       go begins.Empty = tt

@@ -20,7 +20,7 @@ use Rattle.registers.proofs.Answers.{zero-accepted}
 use Rattle.device.specs.Read.{singleByte, afterSingle, afterSingles, singleBytes, readOf}
 use Rattle.device.specs.declared.Device.{Device}
 use Rattle.events.specs.Event.{Event, powerUp, write, read, sample, cycle, clock, bytesAt, gives, bytes}
-use Rattle.events.specs.Run.{next, after, scriptOnto, onward, told}
+use Rattle.events.specs.Run.{next, after, scriptOnto, onward, allGiven}
 use Rattle.events.specs.Parts.{readsBelow}
 use Rattle.events.proofs.Runs.{onward-after}
 use Rattle.rules.specs.Bursts.{isBurst, singles, bytesJoined, opened}
@@ -95,7 +95,7 @@ module _ (f : ℕ → Event) where
   onward-more d a zero = rw add-zero
   onward-more d a (suc n) = onward-more (next d (f a)) (suc a) n ∙ rw (suc-add, add-suc)
 
-  joined-more : (d : Device) (a n : ℕ) → bytesJoined (told d (upFrom f a (suc n))) ≡ bytesJoined (told d (upFrom f a n)) ++ bytesAt (onward d (upFrom f a n)) (f (a + n))
+  joined-more : (d : Device) (a n : ℕ) → bytesJoined (allGiven d (upFrom f a (suc n))) ≡ bytesJoined (allGiven d (upFrom f a n)) ++ bytesAt (onward d (upFrom f a n)) (f (a + n))
   joined-more d a zero = rw (add-zero, append-nil)
   joined-more d a (suc n) = rw (joined-more (next d (f a)) (suc a) n, append-assoc, suc-add, add-suc)
 
@@ -106,7 +106,7 @@ module _ (d : Device) (a : ℕ) where
     unfolding afterSingles
     after-more = onward-more (λ k. read k 1) d a n ∙ rw same (single-next (afterSingles d a n) (a + n) h)
 
-    bytes-more : bytesJoined (told d (singles a n)) ≡ singleBytes d a n → bytesJoined (told d (singles a (suc n))) ≡ singleBytes d a (suc n)
+    bytes-more : bytesJoined (allGiven d (singles a n)) ≡ singleBytes d a n → bytesJoined (allGiven d (singles a (suc n))) ≡ singleBytes d a (suc n)
     unfolding singleBytes
     bytes-more p = joined-more (λ k. read k 1) d a n ∙ rw (p, same, single-bytes (afterSingles d a n) (a + n) h)
 
@@ -115,7 +115,7 @@ module _ (d : Device) (a : ℕ) where
   singles-after zero h = refl
   singles-after (suc n) h = after-more n (omega arith) (singles-after n (omega arith))
 
-  singles-bytes : (n : ℕ) → a + n ≤ 0x3F → bytesJoined (told d (singles a n)) ≡ singleBytes d a n
+  singles-bytes : (n : ℕ) → a + n ≤ 0x3F → bytesJoined (allGiven d (singles a n)) ≡ singleBytes d a n
   unfolding singleBytes
   singles-bytes zero h = refl
   singles-bytes (suc n) h = bytes-more n (omega arith) (singles-after n (omega arith)) (singles-bytes n (omega arith))
@@ -131,7 +131,7 @@ module _ (d : Device) (a : ℕ) where
     unfolding readOf
     burst-device = rw (ok, ne-eqb a framesAt (omega (arith, bounds .0)), singles-after n (bounds .1))
 
-    pub burst-gives : gives d (read a n) ≡ bytes (bytesJoined (told d (singles a n)))
+    pub burst-gives : gives d (read a n) ≡ bytes (bytesJoined (allGiven d (singles a n)))
     unfolding readOf
     burst-gives = rw (answered-0 (readAnswer a n) ok, ok, ne-eqb a framesAt (omega (arith, bounds .0)), singles-bytes n (bounds .1))
 

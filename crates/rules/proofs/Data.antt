@@ -14,7 +14,7 @@ use Rattle.laws.specs.Choice.{pick, both}
 use Rattle.laws.specs.Bits.{bit}
 use Rattle.laws.proofs.Finite.{picked}
 use Rattle.codes.specs.Addresses.{shadowAt}
-use Rattle.table.specs.Rows.{rowAt, rowOf, lineOf, listed, refusedBits, reservedAddresses}
+use Rattle.table.specs.Rows.{rowAt, rowOf, paperLineOf, listed, refusedBits, reservedAddresses}
 use Rattle.channels.specs.Channels.{noSamples, sampled, released, afterLsb, unlocked, byteAt, lsb, msb}
 use Rattle.channels.specs.Codes.{codes, msbOf}
 use Rattle.channels.specs.declared.Channel.{Channel}
@@ -42,7 +42,7 @@ use Rattle.rules.proofs.Channels.{no, Shows, starts, samples, reads-lsb
 
 -- ---- a release
 shadow-accepted : (regs : List ℕ) (byte : ℕ) → accepted (writeAnswer regs shadowAt byte) ≡ true
-unfolding answerAt reservedCode notModelled rowAt rowOf lineOf listed refusedBits reservedAddresses
+unfolding answerAt reservedCode notModelled rowAt rowOf paperLineOf listed refusedBits reservedAddresses
 shadow-accepted regs byte = rw (and-zero-r byte)
 
 releases-is : (regs : List ℕ) (a byte : ℕ) → judgement regs a byte .deeds .releases ≡ isRelease (write a byte)

@@ -6,7 +6,7 @@ use mathlib.Core.Path.{_≡_, refl}
 use mathlib.Core.List.{List}
 use native.Mathlib.Omega.{arith}
 use Rattle.laws.specs.Bits.{bit, worth}
-use Rattle.interrupts.specs.Lines.{statusByte, isActive}
+use Rattle.interrupts.specs.Maps.{statusByte, isActive}
 use Rattle.interrupts.specs.Pins.{levelOf, pinLevel}
 use Rattle.interrupts.specs.declared.Statuses.{Statuses}
 use Rattle.interrupts.specs.declared.Pin.the-variants.{Int1, Int2}

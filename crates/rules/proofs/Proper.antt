@@ -14,7 +14,7 @@ use Rattle.codes.specs.Addresses.{controlAt}
 use Rattle.codes.specs.Mode.{modeOf, isReservedMode}
 use Rattle.codes.specs.Axes.{axesOf}
 use Rattle.codes.specs.Range.{rangeOf}
-use Rattle.table.specs.Rows.{rowAt, rowOf, lineOf, listed, refusedBits, reservedAddresses, resetBytes, merged, writable}
+use Rattle.table.specs.Rows.{rowAt, rowOf, paperLineOf, listed, refusedBits, reservedAddresses, resetBytes, merged, writable}
 use Rattle.channels.specs.Codes.{codes}
 use Rattle.alarm.specs.Alarm.{Marked}
 use Rattle.slopes.specs.Previous.{slopesTo}
@@ -42,13 +42,13 @@ use Rattle.events.specs.Bank.{bankNext}
 use Rattle.events.specs.Parts.{flatNext, detectorsNext, readsFrames}
 use Rattle.events.proofs.Parts.{regs-next, flat-next, detectors-next}
 use Rattle.events.proofs.Runs.{bank-is, bank-length, first-length}
-use Rattle.rules.specs.Proper.{isStored, Written, Proper}
+use Rattle.rules.specs.Proper.{isStored, LeftByWrite, Proper}
 use Rattle.rules.proofs.Writes.{byteWritten, byte-written, byte-next}
 
 -- ---- the registers
 -- the reset byte is one that a write leaves
-first-written : (a : ℕ) → a < 64 → writable a ≡ true → Written a (getD firstBytes a 0)
-unfolding firstBytes resetBytes rowAt rowOf lineOf listed refusedBits reservedAddresses answerAt reservedCode notModelled rangeOf modeOf
+first-written : (a : ℕ) → a < 64 → writable a ≡ true → LeftByWrite a (getD firstBytes a 0)
+unfolding firstBytes resetBytes rowAt rowOf paperLineOf listed refusedBits reservedAddresses answerAt reservedCode notModelled rangeOf modeOf
 first-written a h w =
     let is = alike (λ i. getD firstBytes i 0) (λ i. pick (writable i) (merged (rowAt i) (getD firstBytes i 0)) (getD firstBytes i 0)) 64 refl a h in
     record {
@@ -63,9 +63,9 @@ module _ (regs : List ℕ) (long : length regs ≡ 64) (e : Event) (a : ℕ) (h 
   fixed-next w p =
       byte-next (λ (v : ℕ). v ≡ getD firstBytes a 0) regs long a e p refl (λ byte s. cc (w, right (accepted (writeAnswer regs a byte)) (writable a) s))
 
-  written-next : writable a ≡ true → Written a (getD regs a 0) → Written a (getD (bankNext regs e) a 0)
+  written-next : writable a ≡ true → LeftByWrite a (getD regs a 0) → LeftByWrite a (getD (bankNext regs e) a 0)
   written-next w p =
-      byte-next (λ (v : ℕ). Written a v) regs long a e p (first-written a h w)
+      byte-next (λ (v : ℕ). LeftByWrite a v) regs long a e p (first-written a h w)
       (λ byte s. record { regs = regs; byte = byte; ok = left (accepted (writeAnswer regs a byte)) (writable a) s; is = refl })
 
 -- ---- the FIFO

@@ -21,7 +21,7 @@ use Rattle.alarm.specs.Alarm.{Marked}
 use Rattle.alarm.proofs.Laws.{marked-small, marks-whole}
 use Rattle.alarm.proofs.Laws as alarm
 use Rattle.interrupts.specs.Statuses.{reached, statusesOf}
-use Rattle.interrupts.specs.Lines.{statusByte}
+use Rattle.interrupts.specs.Maps.{statusByte}
 use Rattle.interrupts.specs.declared.Statuses.{Statuses}
 use Rattle.detectors.specs.Detectors.{motionStatus}
 use Rattle.device.specs.Device.{depth, reg}
@@ -29,7 +29,7 @@ use Rattle.device.specs.Show.{insideOf, statusesIn, shownByte}
 use Rattle.device.specs.Read.{byteFrom, singleByte}
 use Rattle.device.specs.declared.Device.{Device}
 use Rattle.events.specs.Event.{Event, read, Given, gives, bytes}
-use Rattle.events.specs.Run.{after, told}
+use Rattle.events.specs.Run.{after, allGiven}
 use Rattle.events.specs.Bank.{stored}
 use Rattle.events.proofs.Runs.{bank-is}
 use Rattle.rules.specs.Stored.{ByteWrites}
@@ -145,12 +145,12 @@ module _ (es : List Event) (b : ByteWrites es) (a n : ℕ) (h : a < 0x3F) where
   one-ruled : gives (after es) (read a 1) ≡ bytes (ruled (elsewhereIn (after es)) es a ∷ [])
   one-ruled = single (after es) a h ∙ rw (byte-ruled es b a (omega arith))
 
-  more-ruled : bytesJoined (told (after (read a 1 ∷ es)) (singles (suc a) n)) ≡ ruledFrom (elsewhereIn (after (read a 1 ∷ es))) (read a 1 ∷ es) (suc a) n
-      → bytesJoined (told (after es) (singles a (suc n))) ≡ ruledFrom (elsewhereIn (after es)) es a (suc n)
+  more-ruled : bytesJoined (allGiven (after (read a 1 ∷ es)) (singles (suc a) n)) ≡ ruledFrom (elsewhereIn (after (read a 1 ∷ es))) (read a 1 ∷ es) (suc a) n
+      → bytesJoined (allGiven (after es) (singles a (suc n))) ≡ ruledFrom (elsewhereIn (after es)) es a (suc n)
   unfolding after
   more-ruled same = rw (ap (λ (g : Given). g .bytes) one-ruled, same, same-elsewhere es a h)
 
-singles-ruled : (es : List Event) → ByteWrites es → (a n : ℕ) → a + n ≤ 0x3F → bytesJoined (told (after es) (singles a n)) ≡ ruledFrom (elsewhereIn (after es)) es a n
+singles-ruled : (es : List Event) → ByteWrites es → (a n : ℕ) → a + n ≤ 0x3F → bytesJoined (allGiven (after es) (singles a n)) ≡ ruledFrom (elsewhereIn (after es)) es a n
 singles-ruled es b a zero h = refl
 singles-ruled es b a (suc n) h = more-ruled es b a n (omega arith) (singles-ruled (read a 1 ∷ es) b (suc a) n (omega arith))
 

@@ -10,7 +10,7 @@ use borrow.Author.Tests.{eqb-true, eq-eqb, ne-eqb, eqb-false}
 use Rattle.laws.specs.Choice.{pick, both}
 use Rattle.laws.proofs.Finite.{left}
 use Rattle.codes.specs.Addresses.{resetAt}
-use Rattle.table.specs.Rows.{rowAt, rowOf, lineOf, listed, reservedAddresses, merged, writable}
+use Rattle.table.specs.Rows.{rowAt, rowOf, paperLineOf, listed, reservedAddresses, merged, writable}
 use Rattle.registers.specs.Answers.{accepted}
 use Rattle.registers.specs.Refused.{writeAnswer}
 use Rattle.registers.specs.Deeds.{softResetByte, isReset}
@@ -34,7 +34,7 @@ fixed-is es a h w = rw (← bank-is es) (proper es .fixed a h w ∙ reset-is a h
 
 -- a soft reset's address has no bit that can be written, and a write to it is always accepted
 at-reset : (a byte : ℕ) → isReset a byte ≡ true → (isSpared a ≡ false) × (writable a ≡ false) × ((regs : List ℕ) → accepted (writeAnswer regs a byte) ≡ true)
-unfolding rowAt rowOf lineOf listed reservedAddresses
+unfolding rowAt rowOf paperLineOf listed reservedAddresses
 at-reset a byte r = rw (eqb-true a resetAt (left (eqb a resetAt) (eqb byte softResetByte) r)) (refl, refl, λ regs. reset-accepted regs byte)
 
 module _ (es : List Event) (a : ℕ) (h : a < 64) where

@@ -24,7 +24,7 @@ abbrev pub spared : List ℕ
 spared = firstSpareAt ∷ secondSpareAt ∷ []
 
 -- v is what an accepted write of some byte, where the registers hold something, leaves at a
-pub record Written (a v : ℕ) : Type 0 where
+pub record LeftByWrite (a v : ℕ) : Type 0 where
   pub regs : List ℕ
   pub byte : ℕ
   pub ok : accepted (writeAnswer regs a byte) ≡ true
@@ -35,7 +35,7 @@ pub record Proper (d : Device) : Type 0 where
   -- where no bit can be written, the byte is as at power-up
   pub fixed : (a : ℕ) → a < 64 → writable a ≡ false → reg d a ≡ reg powerUp a
   -- elsewhere it is what an accepted write leaves: no reserved code, no setting that is not modelled, no bit outside the mask
-  pub written : (a : ℕ) → a < 64 → writable a ≡ true → Written a (reg d a)
+  pub written : (a : ℕ) → a < 64 → writable a ≡ true → LeftByWrite a (reg d a)
   -- "The held frames never exceed the depth"
   pub few : d .fifo .count ≤ depthIn depth (modeOf (reg d controlAt))
   -- "0x0B bits 2:0 (z, y, x) mark the first over axis"; "The marks clear with the status"

@@ -15,7 +15,7 @@ use Rattle.codes.specs.Addresses.{rangeAt, framesAt, controlAt}
 use Rattle.codes.specs.Axes.{axesOf}
 use Rattle.codes.specs.Mode.{modeOf}
 use Rattle.codes.specs.Range.{rangeOf, isReservedRange}
-use Rattle.table.specs.Rows.{resetBytes, rowOf, lineOf, listed}
+use Rattle.table.specs.Rows.{resetBytes, rowOf, paperLineOf, listed}
 use Rattle.fifo.specs.Flat.{Flat, packed}
 use Rattle.fifo.specs.Ledger.{heldOf}
 use Rattle.fifo.specs.Store.{countIn}
@@ -41,7 +41,7 @@ use Rattle.history.specs.Demand.{fates}
 use Rattle.history.specs.History.{accelerometer, readsOut, control, frame, setting, saysHere}
 use Rattle.history.specs.Whole.{Totals, totalled, heldNow, totals}
 use Rattle.history.proofs.Conserve.{demand3, over-clears-here, device-holds, lawful}
-use Rattle.history.proofs.Told.{told}
+use Rattle.history.proofs.Holds.{holds-after}
 use Rattle.history.proofs.Whole.{few, next-totals, next-held}
 use Rattle.counts.specs.declared.Doubt.the-variants.{No, By}
 use Rattle.counts.specs.declared.Why.the-variants as why
@@ -64,7 +64,7 @@ range-is es = ap (λ (regs : List ℕ). rangeOf (getD regs rangeAt 0)) (bank-is 
 
 -- its mode is by the byte of 0x3E since the last clear
 pub mode-is : (es : List Event) → modeIn (after es) ≡ modeOf (control es)
-mode-is es = ap modeOf (told es .regs .control)
+mode-is es = ap modeOf (holds-after es .regs .control)
 
 -- ---- why a stretch ends
 -- a write to 0x0F is refused exactly where its code is reserved, whatever the registers hold
@@ -355,7 +355,7 @@ doubts-next es (clock us) room = refl
 
 -- ---- the account
 pub account-first : firstAccount ≡ accountOf []
-unfolding totals refusals readoutsIn doubtOf bank firstBytes resetBytes rowOf lineOf listed rangeOf modeOf control heldAfter since
+unfolding totals refusals readoutsIn doubtOf bank firstBytes resetBytes rowOf paperLineOf listed rangeOf modeOf control heldAfter since
 account-first = refl
 
 -- one event more: the account is stepped by the event, its answer, and the range, the mode and the frames held behind it

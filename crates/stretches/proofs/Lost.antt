@@ -14,7 +14,7 @@ use Rattle.laws.specs.Choice.{pick}
 use Rattle.codes.specs.Mode.{modeOf, isReservedMode}
 use Rattle.codes.specs.declared.Mode.{Mode}
 use Rattle.codes.specs.declared.Mode.the-variants.{Bypass, Fifo, Stream, Reserved}
-use Rattle.fifo.specs.Ledger.{Mark, taken, held, lost, heldIn, lostOf, passed, arrives}
+use Rattle.fifo.specs.Ledger.{Fate, taken, held, lost, heldIn, lostOf, passed, arrives}
 use Rattle.fifo.specs.Setting.{depthIn, dropsIn}
 use Rattle.fifo.specs.declared.Drop.{Drop}
 use Rattle.fifo.specs.declared.Drop.the-variants.{Newcomer, Oldest}
@@ -25,17 +25,17 @@ use Rattle.history.specs.Demand.{fates}
 use Rattle.history.specs.History.{accelerometer, control, setting, saysHere}
 use Rattle.history.specs.Whole.{heldNow, endings, atEnds}
 use Rattle.history.proofs.Conserve.{over-clears-here, lawful}
-use Rattle.history.proofs.Told.{told}
+use Rattle.history.proofs.Holds.{holds-after}
 use Rattle.history.proofs.Whole.{next-totals}
 use Rattle.counts.specs.Counts.{droppedBack}
 use Rattle.stretches.specs.Histories.{countsOf, LostAt}
 
 -- ---- the ledger
-more-lost : (a : List ℕ) (ms : List (Mark (List ℕ))) → length (lostOf (lost a ∷ ms)) ≡ suc (length (lostOf ms))
+more-lost : (a : List ℕ) (ms : List (Fate (List ℕ))) → length (lostOf (lost a ∷ ms)) ≡ suc (length (lostOf ms))
 more-lost a ms = omega (arith, length-append (lostOf ms) (a ∷ []))
 
 -- where one more is lost when n more came, it is the one after which they came, and it was held
-passed-lost : (n : ℕ) (ms : List (Mark (List ℕ))) → length (lostOf (passed n ms)) ≡ suc (length (lostOf ms))
+passed-lost : (n : ℕ) (ms : List (Fate (List ℕ))) → length (lostOf (passed n ms)) ≡ suc (length (lostOf ms))
     → (f : List ℕ) × (getElem? ms n ≡ some (held f)) × (getElem? (passed n ms) n ≡ some (lost f))
 passed-lost n [] h = absurd (omega arith)
 passed-lost zero (taken a ∷ ms) h = absurd (omega arith)
@@ -50,7 +50,7 @@ abbrev backAt : Drop → ℕ → ℕ
 backAt Newcomer deep = 0
 backAt Oldest deep = deep
 
-arrival-lost : (d : Drop) (deep : ℕ) (f : List ℕ) (ms : List (Mark (List ℕ))) → length (lostOf (arrives d deep f ms)) ≡ suc (length (lostOf ms))
+arrival-lost : (d : Drop) (deep : ℕ) (f : List ℕ) (ms : List (Fate (List ℕ))) → length (lostOf (arrives d deep f ms)) ≡ suc (length (lostOf ms))
     → LostAt f ms (arrives d deep f ms) (backAt d deep)
 arrival-lost Newcomer deep f ms h = go (ltb (heldIn ms) deep) h
   where
@@ -96,5 +96,5 @@ module _ (es : List Event) (e : Event) (f : List ℕ) (says : saysHere es e ≡ 
   pub lost-sample : LostAt f (fates accelerometer es) (fates accelerometer (e ∷ es)) (droppedBack (modeOf (control es)) (heldNow accelerometer es))
   lost-sample =
       let m = modeOf (control es) in
-      rw (← back-is m (heldNow accelerometer es) (told es .mode) full, arrived-is)
+      rw (← back-is m (heldNow accelerometer es) (holds-after es .mode) full, arrived-is)
       (arrival-lost (setting es .drops) (setting es .depth) f (fates accelerometer es) (rw arrived-is at lost-more))

@@ -12,13 +12,13 @@ use Rattle.codes.specs.Mode.{modeOf, isReservedMode}
 use Rattle.registers.specs.Deeds.{isReset, clears}
 use Rattle.events.specs.Event.{Event, powerUp, write, read, sample, cycle, clock}
 use Rattle.history.specs.History.{control}
-use Rattle.history.proofs.Told.{told}
+use Rattle.history.proofs.Holds.{holds-after}
 use Rattle.counts.specs.declared.Account.{Account}
 use Rattle.stretches.specs.Histories.{accountOf, doubtOf, isOfMode}
 
 -- no mode that the sheet does not define is ever in force
 pub mode-known : (es : List Event) → isReservedMode (accountOf es .mode) ≡ false
-mode-known es = told es .mode
+mode-known es = holds-after es .mode
 
 -- two accounts have the same mode, and doubt it alike
 abbrev pub SameMode : Account → Account → Type 0

@@ -18,7 +18,7 @@ use Rattle.events.specs.Bank.{stored}
 use Rattle.events.specs.Event.{Event, powerUp, write, read, sample, cycle, clock, happens}
 use Rattle.events.specs.Run.{after}
 use Rattle.events.specs.Views.{isPowerUp, atWrite, atRead}
-use Rattle.fifo.specs.Ledger.{Mark, held, lost}
+use Rattle.fifo.specs.Ledger.{Fate, held, lost}
 use Rattle.history.specs.History.{accelerometer, readsOut, control}
 use Rattle.history.specs.Whole.{heldNow, totals}
 use Rattle.counts.specs.declared.Account.{Account}
@@ -210,7 +210,7 @@ together ss = record {
 -- ---- which sample an arrival loses
 -- of a newcomer's frame, and what became of each sample accepted since the last clear before it came and behind it, the latest first: with
 -- the newcomer held in front of the others, the sample at `back` was held, and behind the arrival it is lost
-pub record LostAt (newcomer : List ℕ) (before behind : List (Mark (List ℕ))) (back : ℕ) : Type 0 where
+pub record LostAt (newcomer : List ℕ) (before behind : List (Fate (List ℕ))) (back : ℕ) : Type 0 where
   pub frame : List ℕ
   pub was : getElem? (held newcomer ∷ before) back ≡ some (held frame)
   pub is : getElem? behind back ≡ some (lost frame)

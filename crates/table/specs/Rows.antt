@@ -10,16 +10,16 @@ use Rattle.laws.specs.Table.{upFrom}
 use Rattle.table.specs.declared.Row.{Row}
 
 -- a line of the paper: an address, a reset byte and a write mask
-pub record Line : Type 0 where
+pub record PaperLine : Type 0 where
   pub address : ℕ
   pub reset : ℕ
   pub mask : ℕ
 
-abbrev line : ℕ → ℕ → ℕ → Line
+abbrev line : ℕ → ℕ → ℕ → PaperLine
 line a r m = record { address = a; reset = r; mask = m }
 
 -- "Others, as address: reset/mask"
-unfoldable pub listed : List Line
+unfoldable pub listed : List PaperLine
 listed =
     line 0x0F 0x03 0x0F ∷ line 0x10 0x0F 0x1F ∷ line 0x11 0x00 0xFE ∷ line 0x12 0x00 0x60 ∷ line 0x13 0x00 0xC0 ∷ line 0x16 0x00 0xF7 ∷
     line 0x17 0x00 0x7F ∷ line 0x18 0x00 0x0F ∷ line 0x19 0x00 0xFF ∷ line 0x1A 0x00 0xE7 ∷ line 0x1B 0x00 0xFF ∷ line 0x1E 0x00 0x3F ∷
@@ -34,23 +34,23 @@ unfoldable pub reservedAddresses : List ℕ
 reservedAddresses = 0x01 ∷ 0x0D ∷ 0x15 ∷ 0x1C ∷ 0x1D ∷ 0x1F ∷ 0x31 ∷ 0x35 ∷ 0x3D ∷ []
 
 -- the line of an address, or other where none is listed
-abbrev pub find : List Line → ℕ → Line → Line
+abbrev pub find : List PaperLine → ℕ → PaperLine → PaperLine
 find [] a other = other
 find (l ∷ ls) a other = pick (eqb a (l .address)) l (find ls a other)
 
 -- what is not listed and not reserved is read-only and 0 at reset: 02 to 0C, 0E, 3F, and 14, which reads 0.
 -- At 00 the device puts its chip number
-unfoldable pub lineOf : ℕ → Line
-lineOf a = find listed a (pick (isIn reservedAddresses a) (line a 0xFF 0) (line a 0 0))
+unfoldable pub paperLineOf : ℕ → PaperLine
+paperLineOf a = find listed a (pick (isIn reservedAddresses a) (line a 0xFF 0) (line a 0 0))
 
 -- "Refused 3: a 1 in .."; by Q-1 the number is the register's. An address, with those bits as the mask
-unfoldable pub refusedBits : List Line
+unfoldable pub refusedBits : List PaperLine
 refusedBits =
     line 0x11 0 0xE0 ∷ line 0x16 0 0xF0 ∷ line 0x17 0 0x0F ∷ line 0x18 0 0x07 ∷ line 0x32 0 0x03 ∷ line 0x33 0 0x0B ∷
     line 0x36 0 0xE7 ∷ line 0x38 0 0xFF ∷ line 0x39 0 0xFF ∷ line 0x3A 0 0xFF ∷ []
 
 unfoldable pub rowOf : ℕ → Row
-rowOf a = record { 0 = lineOf a .reset; 1 = lineOf a .mask; 2 = find refusedBits a (line a 0 0) .mask }
+rowOf a = record { 0 = paperLineOf a .reset; 1 = paperLineOf a .mask; 2 = find refusedBits a (line a 0 0) .mask }
 
 -- the row of an address; past 0x3F there is none
 unfoldable pub rowAt : ℕ → Row

@@ -26,7 +26,7 @@ use Rattle.wording.specs.Wording.{stretchLine, modedLine, lastLine, lineText}
 use Rattle.wording.specs.declared.Line.the-variants as line
 use Rattle.answers.specs.Answer.{stretchOf, endedOf, restText}
 use Rattle.told.specs.Histories.{toldOf, endOf}
-use Rattle.told.specs.Plain.{allOf, seenAt, lineOf, linesFor, restOf, columnsOf, addedUp}
+use Rattle.told.specs.Plain.{printedStretches, seenAt, lineOf, linesFor, restOf, columnsOf, addedUp}
 use Rattle.answers.specs.declared.Asked.{Asked}
 use Rattle.answers.specs.declared.Asked.the-variants.{Stretches, Modes}
 
@@ -84,7 +84,7 @@ rest-line moded begun es refusal = rw (moded-line moded (accountOf (lastEnd es))
 
 -- of a whole log
 pub stretches-whole : (moded : Bool) (es : List Event) (begun : Bool) (refusal : ℕ)
-    → toldOf (form moded) es ++ endOf (form moded) begun es refusal ≡ linesFor moded (allOf es) ++ lastLine begun (length es) refusal
+    → toldOf (form moded) es ++ endOf (form moded) begun es refusal ≡ linesFor moded (printedStretches es) ++ lastLine begun (length es) refusal
 stretches-whole moded es begun refusal =
     rw (stretches-told moded es, rest-of moded) (go (eqb (length (lastEnd es)) (length es)))
   where
@@ -106,7 +106,7 @@ no-later [] h e = refl
 no-later (x ∷ later) h e = absurd (omega (arith, length-append later h))
 
 -- they lead from power-up to the end
-pub all-of-lead : (es : List Event) → Between [] (allOf es) es
+pub all-of-lead : (es : List Event) → Between [] (printedStretches es) es
 all-of-lead es = go (eqb (length (lastEnd es)) (length es)) refl
   where
     part : Part (lastEnd es) es
@@ -145,16 +145,16 @@ added-up-is ss e = λ i. record {
 
 module _ (es : List Event) where
   -- each of them conserves: held before + accepted = taken + lost + cleared + held after
-  pub all-conserve : Each (λ s. Conserved (accountOf (s .from)) (accountOf (s .to))) (allOf es)
-  all-conserve = each-conserves (allOf es) [] es (all-of-lead es)
+  pub all-conserve : Each (λ s. Conserved (accountOf (s .from)) (accountOf (s .to))) (printedStretches es)
+  all-conserve = each-conserves (printedStretches es) [] es (all-of-lead es)
 
   -- below 2 ^ 64 records its columns are what was counted in it, and those of all lines add up to what was counted in the log
-  pub all-columns : length es < 2 ^ 64 → Each (λ s. columnsOf s ≡ inside s) (allOf es)
-  all-columns room = each-differs (allOf es) [] es (all-of-lead es) room
+  pub all-columns : length es < 2 ^ 64 → Each (λ s. columnsOf s ≡ inside s) (printedStretches es)
+  all-columns room = each-differs (printedStretches es) [] es (all-of-lead es) room
 
-  pub all-add-up : length es < 2 ^ 64 → addedUp (allOf es) ≡ countsOf es
+  pub all-add-up : length es < 2 ^ 64 → addedUp (printedStretches es) ≡ countsOf es
   unfolding totals refusals readoutsIn
-  all-add-up room = added-up-is (allOf es) (all-columns room) ∙ sums (allOf es) [] es (all-of-lead es) ∙ from-none
+  all-add-up room = added-up-is (printedStretches es) (all-columns room) ∙ sums (printedStretches es) [] es (all-of-lead es) ∙ from-none
     where
       from-none : apart (countsOf []) (countsOf es) ≡ countsOf es
       from-none = simp sub-zero
@@ -173,7 +173,7 @@ ended-in-force (e ∷ es) = go (ended-in-force es) (ends (whyAt e)) refl
     go earlier true q = (rw q (range-lasts es), earlier)
     go earlier false q = earlier
 
-pub all-in-force : (es : List Event) → Each InForce (allOf es)
+pub all-in-force : (es : List Event) → Each InForce (printedStretches es)
 all-in-force es = go (eqb (length (lastEnd es)) (length es))
   where
     go : (t : Bool) → Each InForce (pick t (stretches es) (unended es ∷ stretches es))

@@ -26,7 +26,7 @@ use Rattle.counts.specs.Counts.{ends}
 use Rattle.stretches.specs.Histories.{accountOf, whyAt, lastEnd}
 use Rattle.stretches.proofs.Histories.{account-first, account-next, why-is}
 use Rattle.answers.specs.Answer.{start, at, recordText, markAfter, answerer, printed}
-use Rattle.told.specs.Histories.{eventsAs, eventsOnto, stopAs, stopIn, markOf, toldOf, endOf, toldAs, told}
+use Rattle.told.specs.Histories.{eventsAs, eventsOnto, stopAs, stopIn, atMark, toldOf, endOf, toldAs, told}
 use Rattle.answers.specs.declared.Answering.{Answering}
 use Rattle.answers.specs.declared.Asked.{Asked}
 use Rattle.answers.specs.declared.Asked.the-variants.{Stretches, Modes, Samples, Between, Whole}
@@ -39,7 +39,7 @@ ends-marked e es = sym (of-pick accountOf (ends (whyAt e)) (e ∷ es) (lastEnd e
 
 -- the history at the record from, one event more
 from-marked : (from upto : ℕ) (e : Event) (es : List Event)
-    → pick (eqb (suc (length es)) from) (e ∷ es) (markOf (Between from upto) es) ≡ markOf (Between from upto) (e ∷ es)
+    → pick (eqb (suc (length es)) from) (e ∷ es) (atMark (Between from upto) es) ≡ atMark (Between from upto) (e ∷ es)
 from-marked from upto e es = go (eqb (suc (length es)) from) refl (ltb (length es) from) refl
   where
     go : (s : Bool) → eqb (suc (length es)) from ≡ s → (t : Bool) → ltb (length es) from ≡ t
@@ -61,15 +61,15 @@ from-marked from upto e es = go (eqb (suc (length es)) from) refl (ltb (length e
         rw (le-ltb _ _ past, one)
 
 mark-next : (asked : Asked) (e : Event) (es : List Event)
-    → markAfter asked (accountOf (markOf asked es)) (accountOf (e ∷ es)) (whyAt e) ≡ accountOf (markOf asked (e ∷ es))
+    → markAfter asked (accountOf (atMark asked es)) (accountOf (e ∷ es)) (whyAt e) ≡ accountOf (atMark asked (e ∷ es))
 mark-next Stretches e es = ends-marked e es
 mark-next Modes e es = ends-marked e es
 mark-next Samples e es = ends-marked e es
 mark-next (Between from upto) e es =
-    sym (of-pick accountOf (eqb (suc (length es)) from) (e ∷ es) (markOf (Between from upto) es)) ∙ ap accountOf (from-marked from upto e es)
+    sym (of-pick accountOf (eqb (suc (length es)) from) (e ∷ es) (atMark (Between from upto) es)) ∙ ap accountOf (from-marked from upto e es)
 mark-next Whole e es = refl
 
-no-mark : (asked : Asked) → markOf asked [] ≡ []
+no-mark : (asked : Asked) → atMark asked [] ≡ []
 unfolding lastEnd
 no-mark Stretches = refl
 no-mark Modes = refl
@@ -84,7 +84,7 @@ no-mark Whole = refl
 -- ---- the answer's state
 -- after a history, where the version byte is past
 abbrev pub answeringOf : Asked → List Event → Answering
-answeringOf asked es = at (after es) (accountOf es) (accountOf (markOf asked es)) asked
+answeringOf asked es = at (after es) (accountOf es) (accountOf (atMark asked es)) asked
 
 module _ (asked : Asked) (es : List Event) (e : Entry) (room : suc (length es) < 2 ^ 64) where
   pub answering-next : answerer .next (answeringOf asked es) e ≡ answeringOf asked (eventOf e ∷ es)
@@ -92,7 +92,7 @@ module _ (asked : Asked) (es : List Event) (e : Entry) (room : suc (length es) <
   answering-next = rw (account-next es (eventOf e) room, why-is es (eventOf e), mark-next asked (eventOf e) es)
 
   pub answering-text : answerer .text (answeringOf asked es) e
-      ≡ recordText asked (accountOf (markOf asked es)) (accountOf es) (accountOf (eventOf e ∷ es)) (eventOf e) (happens (after es) (eventOf e) .answer) (whyAt (eventOf e))
+      ≡ recordText asked (accountOf (atMark asked es)) (accountOf es) (accountOf (eventOf e ∷ es)) (eventOf e) (happens (after es) (eventOf e) .answer) (whyAt (eventOf e))
   unfolding after
   answering-text = rw (account-next es (eventOf e) room, why-is es (eventOf e))
 

@@ -25,7 +25,7 @@ use Rattle.stretches.proofs.Stretches.{lastEnd-part, sums, each-differs}
 use Rattle.wording.specs.Wording.{rangeLine, modeLine, shortLine, overLine, lineText}
 use Rattle.wording.specs.declared.Line.the-variants as line
 use Rattle.answers.specs.Answer.{inForceText, refusedOf, totalsWords, insideText, wordsText, lastNumber, recordText}
-use Rattle.told.specs.Histories.{markOf, toldOf, endOf}
+use Rattle.told.specs.Histories.{atMark, toldOf, endOf}
 use Rattle.told.specs.Plain.{columnsOf, refusedWrite, changedBy, saidFrom, totalsFrom, Summed}
 use Rattle.answers.specs.declared.Asked.{Asked}
 use Rattle.answers.specs.declared.Asked.the-variants as asked
@@ -109,7 +109,7 @@ module _ {words : Asked} {from upto : ℕ} (worded : Worded words from upto) whe
   -- one event more
   next-told : (e : Event) (es : List Event)
       → toldOf words (e ∷ es)
-      ≡ toldOf words es ++ wordsText from upto (accountOf (markOf words es)) (accountOf es) (accountOf (e ∷ es)) e (happens (after es) e .answer)
+      ≡ toldOf words es ++ wordsText from upto (accountOf (atMark words es)) (accountOf es) (accountOf (e ∷ es)) e (happens (after es) e .answer)
   unfolding toldOf
   next-told e es = ap (λ l. toldOf words es ++ l) (worded .text _ _ _ _ _ _)
 
@@ -136,7 +136,7 @@ module _ {words : Asked} {from upto : ℕ} (worded : Worded words from upto) whe
         → let es = later ++ h in
         toldOf words (e ∷ es)
         ≡ (toldOf words es ++ firstOf es)
-        ++ (refusedWrite e es ++ pick (eqb (suc (length es)) upto) (totalsWords (accountOf (markOf words es)) (accountOf (e ∷ es))) (changedBy e es))
+        ++ (refusedWrite e es ++ pick (eqb (suc (length es)) upto) (totalsWords (accountOf (atMark words es)) (accountOf (e ∷ es))) (changedBy e es))
     unfolding insideText
     inside later e room =
         let es = later ++ h in
@@ -156,14 +156,14 @@ module _ {words : Asked} {from upto : ℕ} (worded : Worded words from upto) whe
         rw (first, append-nil) (inside later e (omega arith) ∙ rw (last, said later (omega arith)))
 
     -- the record upto: what is said before it, its refused write, and the totals
-    ended : (later : List Event) (e : Event) → suc (length (later ++ h)) ≡ upto → markOf words (later ++ h) ≡ h
+    ended : (later : List Event) (e : Event) → suc (length (later ++ h)) ≡ upto → atMark words (later ++ h) ≡ h
         → toldOf words (e ∷ (later ++ h)) ≡ saidFrom h later ++ (refusedWrite e (later ++ h) ++ totalsFrom h (e ∷ (later ++ h)))
     ended later e last mark =
         inside later e (omega arith) ∙ rw (eq-eqb _ _ last, mark, totals-are h (e ∷ (later ++ h)), said later (omega arith))
 
 -- ---- between two records
 -- the history behind the record from
-mark-at : (later h : List Event) (upto : ℕ) → markOf (asked.Between (length h) upto) (later ++ h) ≡ h
+mark-at : (later h : List Event) (upto : ℕ) → atMark (asked.Between (length h) upto) (later ++ h) ≡ h
 mark-at later h upto =
     let n : length (later ++ h) ≡ length later + length h = length-append later h in
     let past : ltb (length (later ++ h)) (length h) ≡ false = le-ltb (length (later ++ h)) (length h) (omega arith) in

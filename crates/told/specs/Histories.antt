@@ -44,22 +44,22 @@ stopIn (suc k) bytes = stopAs (readAt bytes 0 .found) (stopIn k (drop (readAt by
 
 -- ---- what is printed of the records of a history, in order
 -- the history at the mark: the end of the last stretch, the record from, or power-up
-abbrev pub markOf : Asked → List Event → List Event
-markOf Stretches es = lastEnd es
-markOf Modes es = lastEnd es
-markOf Samples es = lastEnd es
-markOf (Between from upto) es = pick (ltb (length es) from) [] (drop (length es - from) es)
-markOf Whole es = []
+abbrev pub atMark : Asked → List Event → List Event
+atMark Stretches es = lastEnd es
+atMark Modes es = lastEnd es
+atMark Samples es = lastEnd es
+atMark (Between from upto) es = pick (ltb (length es) from) [] (drop (length es - from) es)
+atMark Whole es = []
 
 unfoldable pub toldOf : Asked → List Event → List ℕ
 toldOf asked [] = []
 toldOf asked (e ∷ es) =
     toldOf asked es
-    ++ recordText asked (accountOf (markOf asked es)) (accountOf es) (accountOf (e ∷ es)) e (happens (after es) e .answer) (whyAt e)
+    ++ recordText asked (accountOf (atMark asked es)) (accountOf es) (accountOf (e ∷ es)) e (happens (after es) e .answer) (whyAt e)
 
 -- and where the log stops
 abbrev pub endOf : Asked → Bool → List Event → ℕ → List ℕ
-endOf asked begun es refusal = endText asked begun (accountOf (markOf asked es)) (accountOf es) refusal
+endOf asked begun es refusal = endText asked begun (accountOf (atMark asked es)) (accountOf es) refusal
 
 -- of a whole log, by what it begins with: bytes are those behind the version byte
 abbrev pub toldAs : Begins → Asked → List ℕ → List ℕ

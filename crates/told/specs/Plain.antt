@@ -20,8 +20,8 @@ use Rattle.wording.specs.Wording.{stretchLine, modedLine, sampleLine, refusedLi
 
 -- ---- stretches
 -- those that are printed, the latest first: those that have ended and, "only where records are left", the rest
-abbrev pub allOf : List Event → List Stretch
-allOf es = pick (eqb (length (lastEnd es)) (length es)) (stretches es) (unended es ∷ stretches es)
+abbrev pub printedStretches : List Event → List Stretch
+printedStretches es = pick (eqb (length (lastEnd es)) (length es)) (stretches es) (unended es ∷ stretches es)
 
 -- "RANGE in force in the stretch, before its last record acts"; of the rest, which no record ended, at its end
 abbrev pub before : List Event → List Event
@@ -77,8 +77,8 @@ restOf moded es = pick (eqb (length (lastEnd es)) (length es)) [] (lineOf moded 
 
 -- ---- words: h is the history behind the record from
 -- what is in force behind it
-abbrev pub inForce : List Event → List ℕ
-inForce h = rangeLine (accountOf h) ++ modeLine (accountOf h)
+abbrev pub inForceLines : List Event → List ℕ
+inForceLines h = rangeLine (accountOf h) ++ modeLine (accountOf h)
 
 -- "each refused write has its line"
 abbrev pub refusedWrite : Event → List Event → List ℕ
@@ -94,7 +94,7 @@ changedBy e es =
 
 -- what is said of the later events, in order
 abbrev pub saidFrom : List Event → List Event → List ℕ
-saidFrom h [] = inForce h
+saidFrom h [] = inForceLines h
 saidFrom h (e ∷ later) = saidFrom h later ++ (refusedWrite e (later ++ h) ++ changedBy e (later ++ h))
 
 -- the totals from h to k; what "lost" is about, where some were lost; and that no readout came, where none did

@@ -1,10 +1,10 @@
 use borrow.Author.Tests.{eq-eqb, ne-eqb}
-use Rattle.arguments.specs.Words.{pinsOf}
+use Rattle.arguments.specs.Words.{pinsWantedOf}
 use Rattle.arguments.proofs.pins_of.Statement.{statement}
 use Rattle.arguments.proofs.pins_of.Tie as tie
 
 pub pins-of-spec : {M : Type 1} → statement M
-unfolding pinsOf
+unfolding pinsWantedOf
 pins-of-spec =
     tie.close
     (tie.spec

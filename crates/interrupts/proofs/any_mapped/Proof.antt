@@ -1,4 +1,4 @@
-use Rattle.interrupts.specs.Lines.{anyMapped}
+use Rattle.interrupts.specs.Maps.{anyMapped}
 use Rattle.interrupts.proofs.any_mapped.Statement.{statement}
 use Rattle.interrupts.proofs.any_mapped.Tie as tie
 

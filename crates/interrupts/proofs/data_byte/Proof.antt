@@ -1,7 +1,7 @@
 use native.Mathlib.Omega.{arith}
 use native.Mathlib.Nat.{add-zero}
 use Rattle.laws.proofs.Bits.{worth-most}
-use Rattle.interrupts.specs.Lines.{statusByte}
+use Rattle.interrupts.specs.Maps.{statusByte}
 use Rattle.interrupts.proofs.data_byte.Statement.{statement}
 use Rattle.interrupts.proofs.data_byte.Tie as tie
 

@@ -1,5 +1,5 @@
 use native.Mathlib.Nat.{add-zero}
-use Rattle.interrupts.specs.Lines.{statusByte}
+use Rattle.interrupts.specs.Maps.{statusByte}
 use Rattle.interrupts.proofs.detector_byte.Statement.{statement}
 use Rattle.interrupts.proofs.detector_byte.Tie as tie
 

@@ -1,8 +1,8 @@
 use mathlib.Core.Path.{ap, _∙_}
 use denote.Ref.{now as behind}
-use Rattle.interrupts.specs.Lines.{anyMapped}
+use Rattle.interrupts.specs.Maps.{anyMapped}
 use Rattle.interrupts.specs.declared.Statuses.{Statuses}
-use Rattle.interrupts.proofs.Lines.{maps-are}
+use Rattle.interrupts.proofs.Maps.{maps-are}
 use Rattle.interrupts.proofs.is_active.Statement.{statement}
 use Rattle.interrupts.proofs.is_active.Tie as tie
 

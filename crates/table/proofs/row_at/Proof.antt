@@ -1,10 +1,10 @@
 use mathlib.Core.Path.{ap, sym}
-use Rattle.table.specs.Rows.{rowAt, rowOf, lineOf, listed, reservedAddresses, refusedBits}
+use Rattle.table.specs.Rows.{rowAt, rowOf, paperLineOf, listed, reservedAddresses, refusedBits}
 use Rattle.table.proofs.row_at.Statement.{statement}
 use Rattle.table.proofs.row_at.Tie as tie
 
 pub row-at-spec : {M : Type 1} → statement M
-unfolding rowAt rowOf lineOf listed reservedAddresses refusedBits
+unfolding rowAt rowOf paperLineOf listed reservedAddresses refusedBits
 row-at-spec =
     tie.close
     (tie.spec

@@ -1,5 +1,5 @@
 use mir.Facts.{toZ-ofZ}
-use Rattle.laws.proofs.Ints.{held}
+use Rattle.laws.proofs.Ints.{same-in-16-bits}
 use Rattle.slopes.specs.Previous.{slopesTo}
 use Rattle.slopes.proofs.Previous.slopes_to.Statement.{statement}
 use Rattle.slopes.proofs.Previous.slopes_to.Tie as tie
@@ -18,6 +18,6 @@ slopes-to-spec =
     let s = x .before .before in
     let p = s .args .self in
     let g = x .before .struct-told .given in
-    rw (x .slope-between .ensures, held (p .x) (g .0 .1), toZ-ofZ (s .fits .x))
-    (rw (y .slope-between2 .ensures, held (p .y) (g .1 .0 .1), toZ-ofZ (s .fits .y))
-    (rw (c .slope-between3 .ensures, held (p .z) (g .1 .1 .0 .1), toZ-ofZ (s .fits .z))))))
+    rw (x .slope-between .ensures, same-in-16-bits (p .x) (g .0 .1), toZ-ofZ (s .fits .x))
+    (rw (y .slope-between2 .ensures, same-in-16-bits (p .y) (g .1 .0 .1), toZ-ofZ (s .fits .y))
+    (rw (c .slope-between3 .ensures, same-in-16-bits (p .z) (g .1 .1 .0 .1), toZ-ofZ (s .fits .z))))))

@@ -18,7 +18,7 @@ use Rattle.codes.specs.declared.Axes.the-variants.{All, X, Y, Z}
 use Rattle.fifo.specs.Flat.{packed}
 use Rattle.fifo.specs.Ledger as ledger
 use Rattle.fifo.specs.Ledger.{run}
-use Rattle.fifo.specs.Queue.{Queue, empty, pushed, without, reached}
+use Rattle.fifo.specs.Queue.{Queue, empty, pushed, without, framesReached}
 use Rattle.fifo.specs.Setting.{sizeOf, settingOf}
 use Rattle.fifo.specs.Store.{room}
 use Rattle.fifo.proofs.Bounds.{Deep}
@@ -98,7 +98,7 @@ module _ {c : ℕ} {q : Queue (List ℕ)} {d : Device} (h : Holds c q d) where
         mode = h .mode;
       }
 
-  after-readout : (n : ℕ) → Holds c (without (reached (sizeOf (axesOf c)) n) q) (afterReadout d n)
+  after-readout : (n : ℕ) → Holds c (without (framesReached (sizeOf (axesOf c)) n) q) (afterReadout d n)
   after-readout n = record { regs = h .regs; same = rw (h .regs .control, h .same) (read-packed (h .fits) n); fits = fits-read (h .fits) n; mode = h .mode }
 
   after-burst : (a n : ℕ) → Holds c q (afterSingles d a n)
@@ -109,51 +109,51 @@ module _ {c : ℕ} {q : Queue (List ℕ)} {d : Device} (h : Holds c q d) where
 unfoldable pub queueAt : ℕ → List (ledger.Event (List ℕ)) → Queue (List ℕ)
 queueAt c es = run (settingOf depth (modeOf c) (axesOf c)) es .queue
 
-abbrev pub Told : List Event → Type 0
-Told es = Holds (control es) (queueAt (control es) (since accelerometer es)) (after es)
+abbrev pub HoldsAfter : List Event → Type 0
+HoldsAfter es = Holds (control es) (queueAt (control es) (since accelerometer es)) (after es)
 
-module _ (es : List Event) (h : Told es) where
-  told-write : (a byte : ℕ) → Told (write a byte ∷ es)
+module _ (es : List Event) (h : HoldsAfter es) where
+  holds-write : (a byte : ℕ) → HoldsAfter (write a byte ∷ es)
   unfolding control since saysHere after queueAt
-  told-write a byte = go (clears a byte) refl (after-write h a byte)
+  holds-write a byte = go (clears a byte) refl (after-write h a byte)
     where
       go : (b : Bool) → clears a byte ≡ b
           → Holds (pick (clears a byte) (controlBy a byte) (control es)) (pick (clears a byte) empty (queueAt (control es) (since accelerometer es))) (writeOf (after es) a byte .device)
-          → Told (write a byte ∷ es)
+          → HoldsAfter (write a byte ∷ es)
       go true e w = rw e (rw e at w)
       go false e w = rw e (rw e at w)
 
-  told-read : (a n : ℕ) → Told (read a n ∷ es)
+  holds-read : (a n : ℕ) → HoldsAfter (read a n ∷ es)
   unfolding control since saysHere after queueAt readOf readsOut
-  told-read a n = go (accepted (readAnswer a n)) refl (eqb a framesAt) refl
+  holds-read a n = go (accepted (readAnswer a n)) refl (eqb a framesAt) refl
     where
-      go : (ok : Bool) → accepted (readAnswer a n) ≡ ok → (out : Bool) → eqb a framesAt ≡ out → Told (read a n ∷ es)
+      go : (ok : Bool) → accepted (readAnswer a n) ≡ ok → (out : Bool) → eqb a framesAt ≡ out → HoldsAfter (read a n ∷ es)
       go false e out l = rw e h
       go true e true l = rw (e, l) (after-readout h n)
       go true e false l = rw (e, l) (after-burst h a n)
 
-  told-sample : (x y z : ℤ) (t : ℕ) → Told (sample x y z t ∷ es)
+  holds-sample : (x y z : ℤ) (t : ℕ) → HoldsAfter (sample x y z t ∷ es)
   unfolding control since saysHere after queueAt sampleOf
-  told-sample x y z t = go (accepted (sampleAnswer x y z)) refl
+  holds-sample x y z t = go (accepted (sampleAnswer x y z)) refl
     where
-      go : (ok : Bool) → accepted (sampleAnswer x y z) ≡ ok → Told (sample x y z t ∷ es)
+      go : (ok : Bool) → accepted (sampleAnswer x y z) ≡ ok → HoldsAfter (sample x y z t ∷ es)
       go true e = rw e (after-sample h x y z t)
       go false e = rw e h
 
-  told-cycle : Told (cycle ∷ es)
+  holds-cycle : HoldsAfter (cycle ∷ es)
   unfolding control since saysHere after cycleOf
-  told-cycle = record { regs = h .regs; same = h .same; fits = h .fits; mode = h .mode }
+  holds-cycle = record { regs = h .regs; same = h .same; fits = h .fits; mode = h .mode }
 
-  told-clock : (us : ℕ) → Told (clock us ∷ es)
+  holds-clock : (us : ℕ) → HoldsAfter (clock us ∷ es)
   unfolding control since saysHere after clockOf
-  told-clock us = record { regs = h .regs; same = h .same; fits = h .fits; mode = h .mode }
+  holds-clock us = record { regs = h .regs; same = h .same; fits = h .fits; mode = h .mode }
 
-pub told : (es : List Event) → Told es
+pub holds-after : (es : List Event) → HoldsAfter es
 unfolding control since saysHere after queueAt
-told [] = first
-told (powerUp ∷ es) = first
-told (write a byte ∷ es) = told-write es (told es) a byte
-told (read a n ∷ es) = told-read es (told es) a n
-told (sample x y z t ∷ es) = told-sample es (told es) x y z t
-told (cycle ∷ es) = told-cycle es (told es)
-told (clock us ∷ es) = told-clock es (told es) us
+holds-after [] = first
+holds-after (powerUp ∷ es) = first
+holds-after (write a byte ∷ es) = holds-write es (holds-after es) a byte
+holds-after (read a n ∷ es) = holds-read es (holds-after es) a n
+holds-after (sample x y z t ∷ es) = holds-sample es (holds-after es) x y z t
+holds-after (cycle ∷ es) = holds-cycle es (holds-after es)
+holds-after (clock us ∷ es) = holds-clock es (holds-after es) us

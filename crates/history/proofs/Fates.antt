@@ -1,4 +1,4 @@
--- One mark of many: what a sample and a readout make of it, and where it stands among those that entered.
+-- One fate of many: what a sample and a readout make of it, and where it stands among those that entered.
 -- Assumes nothing.
 use Prim.Native.Nat.{ℕ, zero, suc, _+_, _≤_, _<_}
 use mathlib.Core.Bool.{Bool, true, false}
@@ -11,7 +11,7 @@ use lib.Dec.{ltb}
 use lib.ListN.{getElem?, drop}
 use Rattle.laws.specs.Bits.{worth}
 use Rattle.laws.specs.Choice.{pick}
-use Rattle.fifo.specs.Ledger.{Mark, taken, held, lost, heldIn, passed, takes, arrives}
+use Rattle.fifo.specs.Ledger.{Fate, taken, held, lost, heldIn, passed, takes, arrives}
 use Rattle.fifo.specs.declared.Drop.{Drop}
 use Rattle.fifo.specs.declared.Drop.the-variants.{Newcomer, Oldest}
 use Rattle.fifo.proofs.Conserve.{InOrder, settled-none}
@@ -19,7 +19,7 @@ use Rattle.history.specs.Counts.{enters}
 
 module _ {A : Type 0} (a : A) where
   -- ---- a sample passes the one that came d before it
-  pub passed-lost : (d n : ℕ) (ms : List (Mark A)) → getElem? (passed d ms) n ≡ some (lost a) → (getElem? ms n ≡ some (lost a)) ⊎ ((n ≡ d) × (getElem? ms n ≡ some (held a)))
+  pub passed-lost : (d n : ℕ) (ms : List (Fate A)) → getElem? (passed d ms) n ≡ some (lost a) → (getElem? ms n ≡ some (lost a)) ⊎ ((n ≡ d) × (getElem? ms n ≡ some (held a)))
   passed-lost d n [] p = inl p
   passed-lost zero zero (taken b ∷ ms) p = inl p
   passed-lost zero zero (held b ∷ ms) p = inr (refl, cc)
@@ -28,7 +28,7 @@ module _ {A : Type 0} (a : A) where
   passed-lost (suc d) zero (m ∷ ms) p = inl p
   passed-lost (suc d) (suc n) (m ∷ ms) p = ⊎-map (λ q. q) (λ q. (ap suc (q .0), q .1)) (passed-lost d n ms p)
 
-  pub lost-passed : (d n : ℕ) (ms : List (Mark A)) → getElem? ms n ≡ some (lost a) → getElem? (passed d ms) n ≡ some (lost a)
+  pub lost-passed : (d n : ℕ) (ms : List (Fate A)) → getElem? ms n ≡ some (lost a) → getElem? (passed d ms) n ≡ some (lost a)
   lost-passed d n [] p = p
   lost-passed zero zero (taken b ∷ ms) p = p
   lost-passed zero zero (held b ∷ ms) p = cc
@@ -38,7 +38,7 @@ module _ {A : Type 0} (a : A) where
   lost-passed (suc d) (suc n) (m ∷ ms) p = lost-passed d n ms p
 
   -- a held one is lost where it is the one that is passed
-  pub held-passed : (d n : ℕ) (ms : List (Mark A)) → getElem? ms n ≡ some (held a) → (getElem? (passed d ms) n ≡ some (held a)) ⊎ (getElem? (passed d ms) n ≡ some (lost a))
+  pub held-passed : (d n : ℕ) (ms : List (Fate A)) → getElem? ms n ≡ some (held a) → (getElem? (passed d ms) n ≡ some (held a)) ⊎ (getElem? (passed d ms) n ≡ some (lost a))
   held-passed d n [] p = inl p
   held-passed zero zero (taken b ∷ ms) p = inl p
   held-passed zero zero (held b ∷ ms) p = inr cc
@@ -47,7 +47,7 @@ module _ {A : Type 0} (a : A) where
   held-passed (suc d) zero (m ∷ ms) p = inl p
   held-passed (suc d) (suc n) (m ∷ ms) p = held-passed d n ms p
 
-  pub held-lost : (n : ℕ) (ms : List (Mark A)) → getElem? ms n ≡ some (held a) → getElem? (passed n ms) n ≡ some (lost a)
+  pub held-lost : (n : ℕ) (ms : List (Fate A)) → getElem? ms n ≡ some (held a) → getElem? (passed n ms) n ≡ some (lost a)
   held-lost n [] p = cc
   held-lost zero (taken b ∷ ms) p = cc
   held-lost zero (held b ∷ ms) p = cc
@@ -55,7 +55,7 @@ module _ {A : Type 0} (a : A) where
   held-lost (suc n) (m ∷ ms) p = held-lost n ms p
 
   -- a taken one stays, and there is no other
-  pub taken-passed : (d n : ℕ) (ms : List (Mark A)) → (getElem? (passed d ms) n ≡ some (taken a)) ↔ (getElem? ms n ≡ some (taken a))
+  pub taken-passed : (d n : ℕ) (ms : List (Fate A)) → (getElem? (passed d ms) n ≡ some (taken a)) ↔ (getElem? ms n ≡ some (taken a))
   taken-passed d n [] = Iff·rfl
   taken-passed zero zero (taken b ∷ ms) = Iff·rfl
   taken-passed zero zero (held b ∷ ms) = (λ p. cc, λ p. cc)
@@ -66,7 +66,7 @@ module _ {A : Type 0} (a : A) where
 
   -- ---- a readout that reaches k frames
   -- it leaves the lost as they are, and makes no other
-  pub takes-lost : (k n : ℕ) (ms : List (Mark A)) → (getElem? (takes k ms) n ≡ some (lost a)) ↔ (getElem? ms n ≡ some (lost a))
+  pub takes-lost : (k n : ℕ) (ms : List (Fate A)) → (getElem? (takes k ms) n ≡ some (lost a)) ↔ (getElem? ms n ≡ some (lost a))
   takes-lost k n [] = Iff·rfl
   takes-lost k zero (taken b ∷ ms) = Iff·rfl
   takes-lost k zero (held b ∷ ms) = go (ltb (heldIn ms) k)
@@ -79,7 +79,7 @@ module _ {A : Type 0} (a : A) where
   takes-lost k (suc n) (held b ∷ ms) = takes-lost k n ms
   takes-lost k (suc n) (lost b ∷ ms) = takes-lost k n ms
 
-  pub takes-taken : (k n : ℕ) (ms : List (Mark A)) → getElem? ms n ≡ some (taken a) → getElem? (takes k ms) n ≡ some (taken a)
+  pub takes-taken : (k n : ℕ) (ms : List (Fate A)) → getElem? ms n ≡ some (taken a) → getElem? (takes k ms) n ≡ some (taken a)
   takes-taken k n [] p = p
   takes-taken k zero (taken b ∷ ms) p = p
   takes-taken k zero (held b ∷ ms) p = cc
@@ -89,7 +89,7 @@ module _ {A : Type 0} (a : A) where
   takes-taken k (suc n) (lost b ∷ ms) p = takes-taken k n ms p
 
   -- a held one is taken where fewer than k are held before it
-  pub takes-held : (k n : ℕ) (ms : List (Mark A)) → getElem? ms n ≡ some (held a) → getElem? (takes k ms) n ≡ some (pick (ltb (heldIn (drop (suc n) ms)) k) (taken a) (held a))
+  pub takes-held : (k n : ℕ) (ms : List (Fate A)) → getElem? ms n ≡ some (held a) → getElem? (takes k ms) n ≡ some (pick (ltb (heldIn (drop (suc n) ms)) k) (taken a) (held a))
   takes-held k n [] p = cc
   takes-held k zero (taken b ∷ ms) p = cc
   takes-held k zero (held b ∷ ms) p = let e : b ≡ a = cc in rw e
@@ -101,21 +101,21 @@ module _ {A : Type 0} (a : A) where
 -- ---- those that entered
 module _ {A : Type 0} where
   -- how many: where the newcomer is dropped the lost did not enter, and where the oldest is they did
-  abbrev pub enteredIn : Drop → List (Mark A) → ℕ
+  abbrev pub enteredIn : Drop → List (Fate A) → ℕ
   enteredIn r [] = 0
   enteredIn r (taken a ∷ ms) = suc (enteredIn r ms)
   enteredIn r (held a ∷ ms) = suc (enteredIn r ms)
   enteredIn Newcomer (lost a ∷ ms) = enteredIn Newcomer ms
   enteredIn Oldest (lost a ∷ ms) = suc (enteredIn Oldest ms)
 
-  pub held-entered : (r : Drop) (ms : List (Mark A)) → heldIn ms ≤ enteredIn r ms
+  pub held-entered : (r : Drop) (ms : List (Fate A)) → heldIn ms ≤ enteredIn r ms
   held-entered r [] = omega arith
   held-entered r (taken a ∷ ms) = omega (arith, held-entered r ms)
   held-entered r (held a ∷ ms) = omega (arith, held-entered r ms)
   held-entered Newcomer (lost a ∷ ms) = held-entered Newcomer ms
   held-entered Oldest (lost a ∷ ms) = omega (arith, held-entered Oldest ms)
 
-  pub entered-takes : (r : Drop) (k : ℕ) (ms : List (Mark A)) → enteredIn r (takes k ms) ≡ enteredIn r ms
+  pub entered-takes : (r : Drop) (k : ℕ) (ms : List (Fate A)) → enteredIn r (takes k ms) ≡ enteredIn r ms
   entered-takes r k [] = refl
   entered-takes r k (taken a ∷ ms) = ap suc (entered-takes r k ms)
   entered-takes r k (held a ∷ ms) = go (ltb (heldIn ms) k) (entered-takes r k ms)
@@ -126,14 +126,14 @@ module _ {A : Type 0} where
   entered-takes Newcomer k (lost a ∷ ms) = entered-takes Newcomer k ms
   entered-takes Oldest k (lost a ∷ ms) = ap suc (entered-takes Oldest k ms)
 
-  pub drop-takes : (k n : ℕ) (ms : List (Mark A)) → drop n (takes k ms) ≡ takes k (drop n ms)
+  pub drop-takes : (k n : ℕ) (ms : List (Fate A)) → drop n (takes k ms) ≡ takes k (drop n ms)
   drop-takes k zero ms = refl
   drop-takes k (suc n) [] = refl
   drop-takes k (suc n) (taken a ∷ ms) = drop-takes k n ms
   drop-takes k (suc n) (held a ∷ ms) = drop-takes k n ms
   drop-takes k (suc n) (lost a ∷ ms) = drop-takes k n ms
 
-  pub entered-passed : (d n : ℕ) (ms : List (Mark A)) → enteredIn Oldest (drop n (passed d ms)) ≡ enteredIn Oldest (drop n ms)
+  pub entered-passed : (d n : ℕ) (ms : List (Fate A)) → enteredIn Oldest (drop n (passed d ms)) ≡ enteredIn Oldest (drop n ms)
   entered-passed d zero [] = refl
   entered-passed zero zero (taken a ∷ ms) = refl
   entered-passed zero zero (held a ∷ ms) = refl
@@ -145,9 +145,9 @@ module _ {A : Type 0} where
   entered-passed zero (suc n) (m ∷ ms) = refl
   entered-passed (suc d) (suc n) (m ∷ ms) = entered-passed d n ms
 
-  -- ---- of marks in order
+  -- ---- of fates in order
   -- of a held sample: those that left are older than it, and so many of those that entered before it are held
-  pub held-place : (r : Drop) (a : A) (n : ℕ) (ms : List (Mark A)) → InOrder r ms → getElem? ms n ≡ some (held a)
+  pub held-place : (r : Drop) (a : A) (n : ℕ) (ms : List (Fate A)) → InOrder r ms → getElem? ms n ≡ some (held a)
       → (enteredIn r (drop (suc n) ms) + heldIn ms ≡ enteredIn r ms + heldIn (drop (suc n) ms)) × (1 ≤ heldIn ms)
   held-place r a n [] o p = let z : _≡_ {A = ℕ} 0 1 = cc in absurd (omega arith)
   held-place r a zero (taken b ∷ ms) o p = let z : _≡_ {A = ℕ} 0 1 = cc in absurd (omega arith)
@@ -159,14 +159,14 @@ module _ {A : Type 0} where
   held-place Oldest a (suc n) (lost b ∷ ms) o p = absurd (omega (arith, o .1 refl, held-place Oldest a n ms (o .0) p .1))
 
   -- a sample that entered and left
-  abbrev pub isAway : Drop → Mark A → Bool
+  abbrev pub isAway : Drop → Fate A → Bool
   isAway r (taken a) = true
   isAway r (held a) = false
   isAway Newcomer (lost a) = false
   isAway Oldest (lost a) = true
 
   -- each that entered before it left too
-  pub away-place : (r : Drop) (m : Mark A) (n : ℕ) (ms : List (Mark A)) → InOrder r ms → getElem? ms n ≡ some m → isAway r m ≡ true → enteredIn r (drop (suc n) ms) + heldIn ms < enteredIn r ms
+  pub away-place : (r : Drop) (m : Fate A) (n : ℕ) (ms : List (Fate A)) → InOrder r ms → getElem? ms n ≡ some m → isAway r m ≡ true → enteredIn r (drop (suc n) ms) + heldIn ms < enteredIn r ms
   away-place r m n [] o p w = let z : _≡_ {A = ℕ} 0 1 = cc in absurd (omega arith)
   away-place r m zero (taken b ∷ ms) o p w = omega arith
   away-place r m zero (held b ∷ ms) o p w = let e : m ≡ held b = cc in let f : false ≡ true = rw e at w in let z : _≡_ {A = ℕ} 0 1 = cc in absurd (omega arith)
@@ -178,8 +178,8 @@ module _ {A : Type 0} where
   away-place Oldest m (suc n) (lost b ∷ ms) o p w = omega (arith, away-place Oldest m n ms (o .0) p w)
 
   -- ---- a sample arrives, on any setting
-  -- its own mark, and another's
-  pub arrives-new : (r : Drop) (d : ℕ) (a : A) (ms : List (Mark A)) → (getElem? (arrives r d a ms) 0 ≡ some (held a)) ⊎ (getElem? (arrives r d a ms) 0 ≡ some (lost a))
+  -- its own fate, and another's
+  pub arrives-new : (r : Drop) (d : ℕ) (a : A) (ms : List (Fate A)) → (getElem? (arrives r d a ms) 0 ≡ some (held a)) ⊎ (getElem? (arrives r d a ms) 0 ≡ some (lost a))
   arrives-new Newcomer d a ms = go (ltb (heldIn ms) d)
     where
       go : (t : Bool) → (some (pick t (held a) (lost a)) ≡ some (held a)) ⊎ (some (pick t (held a) (lost a)) ≡ some (lost a))
@@ -188,21 +188,21 @@ module _ {A : Type 0} where
   arrives-new Oldest zero a ms = inr refl
   arrives-new Oldest (suc d) a ms = inl refl
 
-  pub arrives-taken : (r : Drop) (d : ℕ) (a b : A) (n : ℕ) (ms : List (Mark A)) → (getElem? (arrives r d b ms) (suc n) ≡ some (taken a)) ↔ (getElem? ms n ≡ some (taken a))
+  pub arrives-taken : (r : Drop) (d : ℕ) (a b : A) (n : ℕ) (ms : List (Fate A)) → (getElem? (arrives r d b ms) (suc n) ≡ some (taken a)) ↔ (getElem? ms n ≡ some (taken a))
   arrives-taken Newcomer d a b n ms = Iff·rfl
   arrives-taken Oldest d a b n ms = taken-passed a d (suc n) (held b ∷ ms)
 
-  pub arrives-lost : (r : Drop) (d : ℕ) (a b : A) (n : ℕ) (ms : List (Mark A)) → getElem? ms n ≡ some (lost a) → getElem? (arrives r d b ms) (suc n) ≡ some (lost a)
+  pub arrives-lost : (r : Drop) (d : ℕ) (a b : A) (n : ℕ) (ms : List (Fate A)) → getElem? ms n ≡ some (lost a) → getElem? (arrives r d b ms) (suc n) ≡ some (lost a)
   arrives-lost Newcomer d a b n ms p = p
   arrives-lost Oldest d a b n ms p = lost-passed a d (suc n) (held b ∷ ms) p
 
-  pub arrives-held : (r : Drop) (d : ℕ) (a b : A) (n : ℕ) (ms : List (Mark A)) → getElem? ms n ≡ some (held a)
+  pub arrives-held : (r : Drop) (d : ℕ) (a b : A) (n : ℕ) (ms : List (Fate A)) → getElem? ms n ≡ some (held a)
       → (getElem? (arrives r d b ms) (suc n) ≡ some (held a)) ⊎ (getElem? (arrives r d b ms) (suc n) ≡ some (lost a))
   arrives-held Newcomer d a b n ms p = inl p
   arrives-held Oldest d a b n ms p = held-passed a d (suc n) (held b ∷ ms) p
 
   -- how many entered: with it, and of those that came n before it or earlier
-  pub arrives-entered : (r : Drop) (d : ℕ) (b : A) (ms : List (Mark A)) → enteredIn r (arrives r d b ms) ≡ worth 1 (enters r d (heldIn ms)) + enteredIn r ms
+  pub arrives-entered : (r : Drop) (d : ℕ) (b : A) (ms : List (Fate A)) → enteredIn r (arrives r d b ms) ≡ worth 1 (enters r d (heldIn ms)) + enteredIn r ms
   arrives-entered Newcomer d b ms = go (ltb (heldIn ms) d)
     where
       go : (t : Bool) → enteredIn Newcomer (pick t (held b) (lost b) ∷ ms) ≡ worth 1 t + enteredIn Newcomer ms
@@ -210,6 +210,6 @@ module _ {A : Type 0} where
       go false = omega arith
   arrives-entered Oldest d b ms = entered-passed d zero (held b ∷ ms) ∙ omega arith
 
-  pub arrives-older : (r : Drop) (d : ℕ) (b : A) (n : ℕ) (ms : List (Mark A)) → enteredIn r (drop (suc n) (arrives r d b ms)) ≡ enteredIn r (drop n ms)
+  pub arrives-older : (r : Drop) (d : ℕ) (b : A) (n : ℕ) (ms : List (Fate A)) → enteredIn r (drop (suc n) (arrives r d b ms)) ≡ enteredIn r (drop n ms)
   arrives-older Newcomer d b n ms = refl
   arrives-older Oldest d b n ms = entered-passed d (suc n) (held b ∷ ms)

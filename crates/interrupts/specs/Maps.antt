@@ -19,15 +19,15 @@ abbrev place : ℕ → ℕ → Place
 place a n = record { address = a; number = n }
 
 -- a status: whether it is 1, where it shows, and the bits that map it to INT1 and to INT2
-pub record Line : Type 0 where
+pub record StatusPlaces : Type 0 where
   pub holds : Statuses → Bool
   pub shown : Place
   pub int1 : Place
   pub int2 : Place
 
 -- "Maps: 0x19 bit 2 for INT1, 0x1B bit 2 for INT2; 0x1A bits 0, 1, 2 are data, watermark, full for INT1, and 7, 6, 5 for INT2"
-abbrev pub lines : List Line
-lines =
+abbrev pub allStatuses : List StatusPlaces
+allStatuses =
     -- "any-motion (0x09 bit 2)"
     record { holds = λ s. s .motion; shown = place 0x09 2; int1 = place 0x19 2; int2 = place 0x1B 2 } ∷
     -- "data (0x0A bit 7)"
@@ -38,27 +38,27 @@ lines =
     record { holds = λ s. s .full; shown = place 0x0A 5; int1 = place 0x1A 2; int2 = place 0x1A 5 } ∷ []
 
 -- what the statuses among ls are worth at an address
-abbrev pub worthAt : ℕ → Statuses → List Line → ℕ
+abbrev pub worthAt : ℕ → Statuses → List StatusPlaces → ℕ
 worthAt a s [] = 0
 worthAt a s (l ∷ ls) = pick (eqb (l .shown .address) a) (worth (2 ^ (l .shown .number)) (l .holds s) + worthAt a s ls) (worthAt a s ls)
 
 -- the byte of 0x09 or 0x0A: "bits of 09 to 0C that no rule below names read 0"
 unfoldable pub statusByte : ℕ → Statuses → ℕ
-statusByte a s = worthAt a s lines
+statusByte a s = worthAt a s allStatuses
 
 -- the bit that maps a status to a pin
-abbrev pub mapOf : Pin → Line → Place
+abbrev pub mapOf : Pin → StatusPlaces → Place
 mapOf Int1 l = l .int1
 mapOf Int2 l = l .int2
 
 -- whether some status among ls is 1 and mapped to the pin
-abbrev pub mappedIn : Pin → Statuses → List ℕ → List Line → Bool
+abbrev pub mappedIn : Pin → Statuses → List ℕ → List StatusPlaces → Bool
 mappedIn p s regs [] = false
 mappedIn p s regs (l ∷ ls) = either (both (l .holds s) (bit (mapOf p l .number) (getD regs (mapOf p l .address) 0))) (mappedIn p s regs ls)
 
 -- "A pin is active when some mapped status is 1"
 unfoldable pub isActive : Pin → Statuses → List ℕ → Bool
-isActive p s regs = mappedIn p s regs lines
+isActive p s regs = mappedIn p s regs allStatuses
 
 -- ---- the same, field by field, as the code does it
 abbrev pub mappedTo : Pin → List ℕ → Statuses

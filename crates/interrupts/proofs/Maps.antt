@@ -3,7 +3,7 @@
 use mathlib.Core.List.{List}
 use mathlib.Core.Path.{_≡_, refl}
 use Prim.Native.Nat.{ℕ}
-use Rattle.interrupts.specs.Lines.{isActive, mappedTo, anyMapped}
+use Rattle.interrupts.specs.Maps.{isActive, mappedTo, anyMapped}
 use Rattle.interrupts.specs.declared.Pin.{Pin}
 use Rattle.interrupts.specs.declared.Pin.the-variants.{Int1, Int2}
 use Rattle.interrupts.specs.declared.Statuses.{Statuses}
