@@ -2,29 +2,35 @@
 -- Assumes nothing.
 use Prim.Native.Nat.{ℕ}
 use mathlib.Core.Bool.{Bool, true, false}
-use mathlib.Core.List.{List, [], _∷_, _++_, append-nil}
+use mathlib.Core.List.{List, [], _∷_}
 use mathlib.Core.Logic.{_⊎_, inl, inr, _↔_}
-use mathlib.Core.Path.{_≡_, refl, sym, ap, subst, _∙_}
+use mathlib.Core.Path.{_≡_, refl, sym, ap, _∙_}
 use native.Mathlib.Omega.{arith}
 use borrow.Author.Tests.{eqb-true, eqb-false, le-ltb}
 use lib.Dec.{eqb}
 use lib.ListN.{getD}
 use Rattle.laws.specs.Choice.{pick}
-use Rattle.follow.specs.Whole.{joined, printedFrom, stopper}
+use Rattle.benchlog.specs.Answers.{foundNumber}
+use Rattle.benchlog.specs.Whole.{LogRead, noVersion, versioned, readLog, logNumber}
+use Rattle.benchlog.specs.declared.Begins.the-variants as begins
+use Rattle.benchlog.specs.declared.Found.{Found}
+use Rattle.benchlog.specs.declared.Found.the-variants as found
+use Rattle.follow.specs.Whole.{printedFrom, stopper}
+use Rattle.follow.proofs.Whole.{log-number}
 use Rattle.text.specs.Text.{decimal, lastDigits}
 use Rattle.playback.specs.Replay as replay
 use Rattle.answers.specs.Answer as answer
 use Rattle.answers.specs.declared.Asked.{Asked}
 use Rattle.jobs.specs.Job.{worker, toReplay, toAnswer}
 use Rattle.jobs.specs.declared.Job.{Job}
-use Rattle.stream.specs.Pump.{ranOver, PumpedAs, statusOf}
+use Rattle.stream.specs.Pump.{PumpedAs, statusOf}
 use Rattle.stream.specs.declared.How.{How}
 use Rattle.stream.specs.declared.How.the-variants.{On, Stopped, NotRead, NotWritten}
 use Rattle.stream.proofs.Blocks.{stopped-by}
+use Rattle.outcomes.specs.Demand1.{DueOfLog}
+use Rattle.outcomes.proofs.Demand1.{demand1}
 use Rattle.ending.specs.Ending.{digitOf}
-use Rattle.programs.specs.Stops.{LogStops}
 use Rattle.programs.specs.Programs.{Followed, Failed, StatusMeans, ReadMeans, MisuseMeans}
-use Rattle.programs.proofs.Stops.{first-number, log-number, number-log, refused-so}
 
 -- ---- by how a pump ended
 stopped-status : (refusal : ℕ) (b : Bool) → eqb refusal 0 ≡ b → ((refusal ≡ 0) × (statusOf (Stopped refusal) ≡ 0)) ⊎ ((refusal ≡ 0 → ⊥) × (statusOf (Stopped refusal) ≡ 3))
@@ -63,43 +69,69 @@ digit-is (Stopped refusal) = go (eqb refusal 0)
 digit-is NotRead = refl
 digit-is NotWritten = refl
 
+-- ---- a log that is refused is refused by one of three numbers
+found-listed : (f : Found) → (foundNumber f ≡ 0 → ⊥) → (foundNumber f ≡ 8) ⊎ (foundNumber f ≡ 9)
+found-listed (found.Record e) some = absurd (some refl)
+found-listed found.End some = absurd (some refl)
+found-listed found.WrongRecord some = inl refl
+found-listed found.Cut some = inr refl
+
+refused-listed : (read : LogRead) → (logNumber read ≡ 0 → ⊥) → (logNumber read ≡ 7) ⊎ ((logNumber read ≡ 8) ⊎ (logNumber read ≡ 9))
+refused-listed (noVersion begins.Version) some = absurd (some refl)
+refused-listed (noVersion begins.WrongVersion) some = inl refl
+refused-listed (noVersion begins.Empty) some = inr (inr refl)
+refused-listed (versioned all) some = inr (found-listed (all .last) some)
+
 -- ---- of a pump that begins before the version byte
 module _ (printed : List ℕ → List ℕ) (job : Job) (off : worker .begun job ≡ false) where
   module _ (how : How) (whole : ℕ) (log : List ℕ) (f : Followed printed job how whole log) where
     abbrev refusal : ℕ
     refusal = f .refusal
 
+    abbrev number : ℕ
+    number = logNumber (readLog log)
+
     status-is : statusOf how ≡ statusOf (Stopped refusal)
     status-is = ap statusOf (f .how-is)
 
-    -- what stopped its last run stops the log
-    log-stops : LogStops log refusal
-    log-stops =
+    -- what stopped its last run is the number of the log
+    number-is : number ≡ refusal
+    number-is =
         let last = f .stopped .last in
         let by = stopped-by (last .done) (f .rest) (f .may) (last .room) (last .turned .0) in
-        number-log worker job off log refusal (ap (printedFrom (stopper worker) job) (f .log-is) ∙ by ∙ ap (λ (n : ℕ). n ∷ []) (last .turned .1))
+        let printed-is = sym (log-number worker log job off) ∙ ap (printedFrom (stopper worker) job) (f .log-is) ∙ by in
+        ap (λ (l : List ℕ). getD l 0 0) printed-is ∙ last .turned .1
 
-    only : (n : ℕ) → LogStops log n → n ≡ refusal
-    only n stop = first-number (sym (log-number worker job off log n stop) ∙ log-number worker job off log refusal log-stops)
+    due : (n : ℕ) → number ≡ n → DueOfLog log n
+    due n = demand1 .of-log log n .0
 
-    done-is : (statusOf how ≡ 0) ↔ LogStops log 0
-    done-is = (λ e. go (stopped-status refusal (eqb refusal 0) refl) e, λ stop. rw (status-is, ← only 0 stop))
+    only : (n : ℕ) → DueOfLog log n → n ≡ refusal
+    only n is = sym (demand1 .of-log log n .1 is) ∙ number-is
+
+    done-is : (statusOf how ≡ 0) ↔ DueOfLog log 0
+    done-is = (λ e. go (stopped-status refusal (eqb refusal 0) refl) e, λ is. rw (status-is, ← only 0 is))
       where
-        go : ((refusal ≡ 0) × (statusOf (Stopped refusal) ≡ 0)) ⊎ ((refusal ≡ 0 → ⊥) × (statusOf (Stopped refusal) ≡ 3)) → statusOf how ≡ 0 → LogStops log 0
-        go (inl p) e = subst (LogStops log) (p .0) log-stops
+        go : ((refusal ≡ 0) × (statusOf (Stopped refusal) ≡ 0)) ⊎ ((refusal ≡ 0 → ⊥) × (statusOf (Stopped refusal) ≡ 3)) → statusOf how ≡ 0 → DueOfLog log 0
+        go (inl p) e = due 0 (number-is ∙ p .0)
         go (inr p) e = let z = sym (p .1) ∙ sym status-is ∙ e in absurd (omega arith)
 
-    refused-is : (statusOf how ≡ 3) ↔ (LogStops log 7 ⊎ (LogStops log 8 ⊎ LogStops log 9))
+    refused-is : (statusOf how ≡ 3) ↔ (DueOfLog log 7 ⊎ (DueOfLog log 8 ⊎ DueOfLog log 9))
     refused-is = (λ e. go (stopped-status refusal (eqb refusal 0) refl) e, back)
       where
-        go : ((refusal ≡ 0) × (statusOf (Stopped refusal) ≡ 0)) ⊎ ((refusal ≡ 0 → ⊥) × (statusOf (Stopped refusal) ≡ 3)) → statusOf how ≡ 3 → LogStops log 7 ⊎ (LogStops log 8 ⊎ LogStops log 9)
-        go (inl p) e = let z = sym (p .1) ∙ sym status-is ∙ e in absurd (omega arith)
-        go (inr p) e = refused-so log refusal log-stops (p .0)
+        by-number : (number ≡ 7) ⊎ ((number ≡ 8) ⊎ (number ≡ 9)) → DueOfLog log 7 ⊎ (DueOfLog log 8 ⊎ DueOfLog log 9)
+        by-number (inl e) = inl (due 7 e)
+        by-number (inr (inl e)) = inr (inl (due 8 e))
+        by-number (inr (inr e)) = inr (inr (due 9 e))
 
-        back : LogStops log 7 ⊎ (LogStops log 8 ⊎ LogStops log 9) → statusOf how ≡ 3
-        back (inl stop) = rw (status-is, ← only 7 stop)
-        back (inr (inl stop)) = rw (status-is, ← only 8 stop)
-        back (inr (inr stop)) = rw (status-is, ← only 9 stop)
+        go : ((refusal ≡ 0) × (statusOf (Stopped refusal) ≡ 0)) ⊎ ((refusal ≡ 0 → ⊥) × (statusOf (Stopped refusal) ≡ 3)) → statusOf how ≡ 3
+            → DueOfLog log 7 ⊎ (DueOfLog log 8 ⊎ DueOfLog log 9)
+        go (inl p) e = let z = sym (p .1) ∙ sym status-is ∙ e in absurd (omega arith)
+        go (inr p) e = by-number (refused-listed (readLog log) (λ z. p .0 (sym number-is ∙ z)))
+
+        back : DueOfLog log 7 ⊎ (DueOfLog log 8 ⊎ DueOfLog log 9) → statusOf how ≡ 3
+        back (inl is) = rw (status-is, ← only 7 is)
+        back (inr (inl is)) = rw (status-is, ← only 8 is)
+        back (inr (inr is)) = rw (status-is, ← only 9 is)
 
   either-way : (how : How) (whole : ℕ) → PumpedAs printed job how whole → Failed how ⊎ ((log : List ℕ) × Followed printed job how whole log)
   either-way On whole p = inl (inr (inr refl))

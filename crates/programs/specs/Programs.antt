@@ -7,13 +7,13 @@ use mathlib.Core.Path.{_≡_}
 use lib.IntN.{pos, negsuc}
 use Rattle.follow.specs.Whole.{joined}
 use Rattle.text.specs.Text.{decimal}
+use Rattle.outcomes.specs.Demand1.{DueOfLog}
 use Rattle.jobs.specs.declared.Job.{Job}
 use Rattle.window.specs.Given.{gotOf}
 use Rattle.stream.specs.Pump.{MayFollow, allBlocks, StoppedLog, PumpedAs, statusOf}
 use Rattle.stream.specs.declared.How.{How}
 use Rattle.stream.specs.declared.How.the-variants.{On, Stopped, NotRead, NotWritten}
 use Rattle.ending.specs.Ending.{digitOf, misused}
-use Rattle.programs.specs.Stops.{LogStops}
 
 -- a pump followed a log to where it stops: the log begins with the parts that came, and is their sum where its end was seen
 pub record Followed (printed : List ℕ → List ℕ) (job : Job) (how : How) (whole : ℕ) (log : List ℕ) : Type 0 where
@@ -34,11 +34,11 @@ pub record StatusMeans (printed : List ℕ → List ℕ) (job : Job) : Type 0 wh
   pub each : (how : How) (whole : ℕ) → PumpedAs printed job how whole → Failed how ⊎ ((log : List ℕ) × Followed printed job how whole log)
   -- what it handed to its writes is, joined, what is printed of that log
   pub text : (how : How) (whole : ℕ) (log : List ℕ) (f : Followed printed job how whole log) → joined (allBlocks (f .stopped .last)) ≡ printed log
-  -- 0 exactly where the log ended at a record boundary, and nothing was refused
-  pub done : (how : How) (whole : ℕ) (log : List ℕ) → Followed printed job how whole log → (statusOf how ≡ 0) ↔ LogStops log 0
-  -- 3 exactly where 7, 8 or 9 stopped it
+  -- 0 exactly where 0 is due of the log: it ended at a record boundary, and nothing was refused
+  pub done : (how : How) (whole : ℕ) (log : List ℕ) → Followed printed job how whole log → (statusOf how ≡ 0) ↔ DueOfLog log 0
+  -- 3 exactly where 7, 8 or 9 is due of it
   pub refused : (how : How) (whole : ℕ) (log : List ℕ) → Followed printed job how whole log
-      → (statusOf how ≡ 3) ↔ (LogStops log 7 ⊎ (LogStops log 8 ⊎ LogStops log 9))
+      → (statusOf how ≡ 3) ↔ (DueOfLog log 7 ⊎ (DueOfLog log 8 ⊎ DueOfLog log 9))
   -- 1 exactly where a call failed, or the input was too long
   pub failed : (how : How) → (statusOf how ≡ 1) ↔ Failed how
   -- and what goes to descriptor 3 is its digit

@@ -5,9 +5,7 @@ use mathlib.Core.Bool.{Bool}
 use mathlib.Core.List.{List, [], _∷_, _++_, append-assoc, append-nil}
 use mathlib.Core.Path.{_≡_, refl, sym, ap, _∙_}
 use native.Mathlib.Omega.{arith}
-use native.Mathlib.Nat.{add-zero}
 use lib.ListN.{length, getD, drop, length-drop, length-append}
-use lib.Seq.{drop-drop}
 use Rattle.laws.specs.Refusals.{first}
 use Rattle.benchlog.specs.Reader.{readAt, versionRows, versionReadAs, readVersion}
 use Rattle.benchlog.specs.Whole.{AllRead, stopped, andThen, readFrom, behindVersion, readLog}
@@ -17,11 +15,11 @@ use Rattle.benchlog.specs.declared.Entry.{Entry}
 use Rattle.benchlog.specs.declared.Found.{Found}
 use Rattle.benchlog.specs.declared.Found.the-variants as found
 use Rattle.benchlog.proofs.Heads.{next-behind}
-use Rattle.benchlog.proofs.Local.{moved, read-moved}
 use Rattle.events.specs.Event.{Event, happens, gives}
 use Rattle.events.specs.Run.{after}
 use Rattle.entries.specs.Entries.{eventOf}
 use Rattle.follow.specs.Whole.{joined, linesAs, linesOf, begunAs, printedFrom}
+use Rattle.follow.proofs.Whole.{lines-at}
 use Rattle.playback.specs.Replay.{start, at, replayer, printed}
 use Rattle.playback.specs.declared.Replay.{Replay}
 use Rattle.replayed.specs.Events.{recordsIn, eventsBehind, eventsOf}
@@ -63,16 +61,6 @@ module _ (pins : Bool) where
   line-next es r = let g = gives (after es) (eventOf r) in line-is pins (suc (length es)) (g .number) (g .bytes) (eventOf r ∷ es)
 
   module _ (log : List ℕ) where
-    -- one step, at a place of the log
-    lines-at : (k : ℕ) (s : Replay) (place : ℕ)
-        → linesOf replayer (suc k) s (drop place log)
-        ≡ linesAs replayer (readAt log place .found) s (λ s′. linesOf replayer k s′ (drop (readAt log place .next) log))
-    unfolding linesOf
-    lines-at k s place =
-        let r = readAt (drop place log) 0 in
-        let m : readAt log place ≡ moved place r = rw add-zero at (read-moved place log 0) in
-        rw m (ap (λ (l : List ℕ). linesAs replayer (r .found) s (λ s′. linesOf replayer k s′ l)) (drop-drop (r .next) place log))
-
     abbrev LinesRead : ℕ → ℕ → Type 0
     LinesRead k n = (es : List Event) (place : ℕ) → length log ≤ place + n → length (drop place log) < k
         → suc (length es + length (readFrom n log place .entries)) < 2 ^ 64
@@ -102,7 +90,7 @@ module _ (pins : Bool) where
           ∙ (λ i. sym (one-more es (eventOf r)) i ++ linesOf replayer k (next-state es r room i) t)
 
     none-left : (k : ℕ) → LinesRead (suc k) zero
-    none-left k es place h g room = rw (lines-at k (stateOf es) place) (go (readAt log place .found) refl)
+    none-left k es place h g room = rw (lines-at replayer log k (stateOf es) place) (go (readAt log place .found) refl)
       where
         go : (f : Found) → readAt log place .found ≡ f → here k es place f ≡ textBehind es (stopped f)
         go (found.Record r) q = let b = next-behind place (drop place log) r q in absurd (omega (arith, b .0, b .1, length-drop place log))
@@ -111,7 +99,7 @@ module _ (pins : Bool) where
         go found.Cut q = stop-cut k es place
 
     step : (k n : ℕ) → LinesRead k n → LinesRead (suc k) (suc n)
-    step k n later es place h g room = rw (lines-at k (stateOf es) place) (go (readAt log place .found) refl room)
+    step k n later es place h g room = rw (lines-at replayer log k (stateOf es) place) (go (readAt log place .found) refl room)
       where
         rest : AllRead
         rest = readFrom n log (readAt log place .next)
