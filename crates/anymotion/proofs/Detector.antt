@@ -28,7 +28,7 @@ use Rattle.events.specs.Bank.{bank}
 use Rattle.events.specs.Parts.{detectorsNext}
 use Rattle.events.proofs.Parts.{detectors-next}
 use Rattle.events.proofs.Runs.{bank-is}
-use Rattle.anymotion.specs.InForce.{inForce, isAccepted, pointsAsked, isNonLatched, timeAsked, isAcceptedAt, startsAnew, clearing, restarts, forgetting, forgets, Signed, fits, brings, passing}
+use Rattle.anymotion.specs.InForce.{inForce, isAccepted, pointsAsked, isNonLatched, timeAsked, isAcceptedAt, startsAnew, clearing, restarts, forgetting, forgets, Signed, fits, brings, microsecondsAt}
 use Rattle.anymotion.specs.Points.{AxisDifference, OverAxes, samples, pointOfTwo, pointAt}
 use Rattle.anymotion.specs.Status.{isSetBy, lookBack, points, clockSince, isSet, sets, expires}
 use Rattle.anymotion.specs.Marks.{firstAxis, markedAxes}
@@ -47,7 +47,7 @@ motionAfter es = motionBy (pointsAsked es) (isNonLatched es) (timeAsked es) (poi
 
 -- ---- an event after a history
 -- the clock since the setting begins anew where the event sets the status
-pub since-next : (es : List Event) (e : Event) → clockSince (e ∷ es) ≡ pick (both (not (isSet es)) (isSet (e ∷ es))) 0 (clockSince es + passing e)
+pub since-next : (es : List Event) (e : Event) → clockSince (e ∷ es) ≡ pick (both (not (isSet es)) (isSet (e ∷ es))) 0 (clockSince es + microsecondsAt e)
 unfolding lookBack
 since-next es e = refl
 
@@ -77,7 +77,7 @@ module _ (es : List Event) (e : Event) (same : restarts es e ≡ false) where
   marked-kept ps h = rw (not-anew, asked-kept, latch-kept, h)
 
   pub since-kept : (ps : List OverAxes) → points (e ∷ es) ≡ ps
-      → clockSince (e ∷ es) ≡ pick (both (not (isSet es)) (isSetBy (pointsAsked es) (isNonLatched es) ps)) 0 (clockSince es + passing e)
+      → clockSince (e ∷ es) ≡ pick (both (not (isSet es)) (isSetBy (pointsAsked es) (isNonLatched es) ps)) 0 (clockSince es + microsecondsAt e)
   since-kept ps h = since-next es e ∙ rw (asked-kept, latch-kept, h)
 
   module _ (lasts : expires es e ≡ false) where
@@ -86,10 +86,10 @@ module _ (es : List Event) (e : Event) (same : restarts es e ≡ false) where
     points-kept = rw (same, lasts)
 
     -- no point: the clock goes on
-    nothing-next : pointAt es e ≡ [] → motionAfter (e ∷ es) ≡ motionBy (pointsAsked es) (isNonLatched es) (timeAsked es) (points es) (markedAxes es) (clockSince es + passing e)
+    nothing-next : pointAt es e ≡ [] → motionAfter (e ∷ es) ≡ motionBy (pointsAsked es) (isNonLatched es) (timeAsked es) (points es) (markedAxes es) (clockSince es + microsecondsAt e)
     nothing-next h =
         let ps : points (e ∷ es) ≡ points es = points-kept ∙ rw h in
-        rw (asked-kept, latch-kept, time-kept, marked-kept (points es) ps, since-kept (points es) ps, ps) (go (isSet es) (clockSince es + passing e))
+        rw (asked-kept, latch-kept, time-kept, marked-kept (points es) ps, since-kept (points es) ps, ps) (go (isSet es) (clockSince es + microsecondsAt e))
       where
         go : (t : Bool) (c : ℕ)
             → motionBy (pointsAsked es) (isNonLatched es) (timeAsked es) (points es) (pick (both (not t) t) (firstAxis (points es) ++ markedAxes es) (markedAxes es)) (pick (both (not t) t) 0 c)
@@ -97,8 +97,8 @@ module _ (es : List Event) (e : Event) (same : restarts es e ≡ false) where
         go true c = refl
         go false c = refl
 
-    module _ (still : passing e ≡ 0) where
-      no-clock : clockSince es + passing e ≡ clockSince es
+    module _ (still : microsecondsAt e ≡ 0) where
+      no-clock : clockSince es + microsecondsAt e ≡ clockSince es
       no-clock = omega (arith, still)
 
       idle-kept : pointAt es e ≡ [] → motionAfter (e ∷ es) ≡ motionAfter es
@@ -137,19 +137,19 @@ module _ (es : List Event) (e : Event) where
   expiry-clears h = none-set (e ∷ es) (expiry-empties h)
 
   -- what it takes
-  pub expiry-when : expires es e ≡ true → (isSet es ≡ true) × (1 ≤ timeAsked es) × (timeAsked es ≤ clockSince es + passing e)
+  pub expiry-when : expires es e ≡ true → (isSet es ≡ true) × (1 ≤ timeAsked es) × (timeAsked es ≤ clockSince es + microsecondsAt e)
   unfolding expires
   expiry-when h =
-      let c : Bool = both (leb 1 (timeAsked es)) (leb (timeAsked es) (clockSince es + passing e)) in
+      let c : Bool = both (leb 1 (timeAsked es)) (leb (timeAsked es) (clockSince es + microsecondsAt e)) in
       let r = right-part (isSet es) c h in (
         left-part (isSet es) c h,
-        leb-true 1 (timeAsked es) (left-part (leb 1 (timeAsked es)) (leb (timeAsked es) (clockSince es + passing e)) r),
-        leb-true (timeAsked es) (clockSince es + passing e) (right-part (leb 1 (timeAsked es)) (leb (timeAsked es) (clockSince es + passing e)) r),
+        leb-true 1 (timeAsked es) (left-part (leb 1 (timeAsked es)) (leb (timeAsked es) (clockSince es + microsecondsAt e)) r),
+        leb-true (timeAsked es) (clockSince es + microsecondsAt e) (right-part (leb 1 (timeAsked es)) (leb (timeAsked es) (clockSince es + microsecondsAt e)) r),
       )
 
-  pub expiry-not : expires es e ≡ false → isSet es ≡ true → 1 ≤ timeAsked es → clockSince es + passing e < timeAsked es
+  pub expiry-not : expires es e ≡ false → isSet es ≡ true → 1 ≤ timeAsked es → clockSince es + microsecondsAt e < timeAsked es
   unfolding expires
-  expiry-not h s t = leb-false (timeAsked es) (clockSince es + passing e) (rw (s, le-leb 1 (timeAsked es) t) at h)
+  expiry-not h s t = leb-false (timeAsked es) (clockSince es + microsecondsAt e) (rw (s, le-leb 1 (timeAsked es) t) at h)
 
   -- a restart is not left with a status
   pub restart-empties : restarts es e ≡ true → points (e ∷ es) ≡ []
@@ -167,7 +167,7 @@ below (e ∷ es) s t = go (restarts es e) refl (expires es e) refl
     went-on : restarts es e ≡ false → expires es e ≡ false → clockSince (e ∷ es) < timeAsked (e ∷ es)
     went-on r x = rw (since-next es e, s) (at (isSet es) refl)
       where
-        at : (b : Bool) → isSet es ≡ b → pick (both (not b) true) 0 (clockSince es + passing e) < timeAsked (e ∷ es)
+        at : (b : Bool) → isSet es ≡ b → pick (both (not b) true) 0 (clockSince es + microsecondsAt e) < timeAsked (e ∷ es)
         at true f = rw (time-kept es e r) (expiry-not es e x f (rw (time-kept es e r) at t))
         at false f = t
 
@@ -177,7 +177,7 @@ below (e ∷ es) s t = go (restarts es e) refl (expires es e) refl
     go false r false f = went-on r f
 
 -- where no time passes, nothing expires
-pub still-lasts : (es : List Event) (e : Event) → passing e ≡ 0 → expires es e ≡ false
+pub still-lasts : (es : List Event) (e : Event) → microsecondsAt e ≡ 0 → expires es e ≡ false
 still-lasts es e n = go (expires es e) refl
   where
     go : (x : Bool) → expires es e ≡ x → x ≡ false
@@ -190,7 +190,7 @@ record Agrees (es : List Event) (d : Detectors) : Type 0 where
   motion : d .motion ≡ motionAfter es
 
 -- an event that is neither a sample, a clock nor a write
-idle-next : (es : List Event) (e : Event) (d : Detectors) → restarts es e ≡ false → forgets es e ≡ false → brings e ≡ [] → passing e ≡ 0 → Agrees es d → Agrees (e ∷ es) d
+idle-next : (es : List Event) (e : Event) (d : Detectors) → restarts es e ≡ false → forgets es e ≡ false → brings e ≡ [] → microsecondsAt e ≡ 0 → Agrees es d → Agrees (e ∷ es) d
 unfolding samples pointAt
 idle-next es e d r f b n h = record { previous = rw (f, b) (h .previous); motion = h .motion ∙ sym (idle-kept es e r (still-lasts es e n) n (rw b)) }
 

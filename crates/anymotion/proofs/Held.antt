@@ -15,7 +15,7 @@ use Rattle.events.specs.Event.{Event, write, clock, bytes, gives}
 use Rattle.events.specs.Bank.{stored}
 use Rattle.events.proofs.Runs.{alike-later}
 use Rattle.rules.proofs.Registers.{reads-tabled}
-use Rattle.anymotion.specs.InForce.{inForce, pointsAsked, timeAsked, restarts, Signed, brings, passing}
+use Rattle.anymotion.specs.InForce.{inForce, pointsAsked, timeAsked, restarts, Signed, brings, microsecondsAt}
 use Rattle.anymotion.specs.Points.{OverAxes, samples, anyEnabled, pointOfTwo, pointAt}
 use Rattle.anymotion.specs.Status.{isOver, lastAre, isSetBy, timeReached, lookBack, points, clockSince, isSet, sets, expires}
 use Rattle.anymotion.specs.Marks.{marksByte}
@@ -39,7 +39,7 @@ set-stays n (p ∷ []) ps o h = rw h (go (lastAre isOver n (p ∷ ps)))
 set-stays n (p ∷ (r ∷ q)) ps o h = absurd o
 
 -- an event that does not restart and does not reach the time
-module _ (es : List Event) (e : Event) (same : restarts es e ≡ false) (set : isSet es ≡ true) (timed : 1 ≤ timeAsked es) (short : clockSince es + passing e < timeAsked es) where
+module _ (es : List Event) (e : Event) (same : restarts es e ≡ false) (set : isSet es ≡ true) (timed : 1 ≤ timeAsked es) (short : clockSince es + microsecondsAt e < timeAsked es) where
   lasts : expires es e ≡ false
   lasts = go (expires es e) refl
     where
@@ -54,7 +54,7 @@ module _ (es : List Event) (e : Event) (same : restarts es e ≡ false) (set : i
       rw (asked-kept es e same, latch-kept es e same, points-kept es e same lasts, u)
       (set-stays _ (pointAt es e) (points es) (one-or-none (inForce es 0x16) (inForce es 0x28) (brings e) (samples es)) (rw u at set))
 
-  clock-next : clockSince (e ∷ es) ≡ clockSince es + passing e
+  clock-next : clockSince (e ∷ es) ≡ clockSince es + microsecondsAt e
   clock-next = since-next es e ∙ rw set
 
 -- ---- the events since the one that set it
@@ -74,7 +74,7 @@ module _ (es : List Event) (e : Event) (set : sets es e ≡ true) (timed : 1 ≤
   more : (f : Event) (later : List Event) → restarts (behind later) f ≡ false → clockOver (f ∷ later) < timeAsked (e ∷ es) → Waits later → Waits (f ∷ later)
   more f later same short w =
       let t : 1 ≤ timeAsked (behind later) = rw (w .time) timed in
-      let s : clockSince (behind later) + passing f < timeAsked (behind later) = rw (w .since, w .time) (omega (arith, short)) in
+      let s : clockSince (behind later) + microsecondsAt f < timeAsked (behind later) = rw (w .since, w .time) (omega (arith, short)) in
       record {
         status = set-next (behind later) f same (w .status) t s;
         since = clock-next (behind later) f same (w .status) t s ∙ rw (w .since) (omega arith);

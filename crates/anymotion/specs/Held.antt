@@ -8,13 +8,13 @@ use lib.ListN.{length}
 use Rattle.laws.specs.Bits.{bit, worth}
 use Rattle.events.specs.Event.{Event, write, read, clock, Given, bytes, gives}
 use Rattle.events.specs.Run.{after}
-use Rattle.anymotion.specs.InForce.{pointsAsked, timeAsked, restarts, brings, passing}
+use Rattle.anymotion.specs.InForce.{pointsAsked, timeAsked, restarts, brings, microsecondsAt}
 use Rattle.anymotion.specs.Status.{sets}
 
 -- "the clock since its setting": a sum over the events that came since, whatever they are
 abbrev pub clockOver : List Event → ℕ
 clockOver [] = 0
-clockOver (e ∷ later) = passing e + clockOver later
+clockOver (e ∷ later) = microsecondsAt e + clockOver later
 
 -- none of the later events, which come behind es, is power-up, a soft reset or "an accepted write to 0x0F, 0x16, 0x21, 0x27 or 0x28"
 abbrev pub NoneRestarts : List Event → List Event → Type 0

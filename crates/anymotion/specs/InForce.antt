@@ -108,5 +108,5 @@ brings e = atSample [] (λ x y z temperature. pick (both (fits x) (both (fits y)
 
 -- ---- clocks
 -- the microseconds that pass at an event: none but at a clock
-abbrev pub passing : Event → ℕ
-passing e = atClock 0 (λ us. us) e
+abbrev pub microsecondsAt : Event → ℕ
+microsecondsAt e = atClock 0 (λ us. us) e

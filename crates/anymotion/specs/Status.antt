@@ -7,7 +7,7 @@ use lib.Dec.{leb}
 use lib.ListN.{length}
 use Rattle.laws.specs.Choice.{pick, both}
 use Rattle.events.specs.Event.{Event}
-use Rattle.anymotion.specs.InForce.{pointsAsked, isNonLatched, timeAsked, restarts, passing}
+use Rattle.anymotion.specs.InForce.{pointsAsked, isNonLatched, timeAsked, restarts, microsecondsAt}
 use Rattle.anymotion.specs.Points.{OverAxes, pointAt}
 
 -- "A point is over when some axis .., else calm"
@@ -52,7 +52,7 @@ pub record LookBack : Type 0 where
 module _ (es : List Event) (e : Event) (before : LookBack) where
   -- Q-4: "when the clock since its setting reaches that time", of a status that is held for a time
   abbrev pub timeReached : Bool
-  timeReached = both (isSetOn es (before .points)) (both (leb 1 (timeAsked es)) (leb (timeAsked es) (before .clock + passing e)))
+  timeReached = both (isSetOn es (before .points)) (both (leb 1 (timeAsked es)) (leb (timeAsked es) (before .clock + microsecondsAt e)))
 
   -- "An accepted write .. clears status, marks and runs"; "The status clears, with marks and runs": the points begin anew
   abbrev pub pointsNext : List OverAxes
@@ -61,7 +61,7 @@ module _ (es : List Event) (e : Event) (before : LookBack) where
   -- the clock begins anew where e sets the status, and goes on at every other event: "Calm points don't clear it sooner; over points don't
   -- extend it"
   abbrev pub clockNext : ℕ
-  clockNext = pick (both (not (isSetOn es (before .points))) (isSetOn (e ∷ es) pointsNext)) 0 (before .clock + passing e)
+  clockNext = pick (both (not (isSetOn es (before .points))) (isSetOn (e ∷ es) pointsNext)) 0 (before .clock + microsecondsAt e)
 
 unfoldable pub lookBack : List Event → LookBack
 lookBack [] = record { points = []; clock = 0 }

@@ -37,7 +37,7 @@ use Rattle.rules.proofs.Reading.{depth-is, in-order}
 use Rattle.rules.proofs.Registers.{registers}
 use Rattle.rules.proofs.Stored.{stored-is}
 use Rattle.demand2.specs.Demand2.{elsewhere}
-use Rattle.demand2.specs.Watermark.{watermarkBit, level, frameCount, frameSize, Reaches, setUpAt, goesOn, goOn, arrived, asks, framesAsked, Watermark}
+use Rattle.demand2.specs.Watermark.{watermarkBit, level, frameCount, frameSize, Reaches, setUpAt, goesOn, goOn, arrived, framesAskedBy, framesAsked, Watermark}
 use Rattle.demand2.proofs.Demand2.{demand2, out}
 
 -- ---- tests and what they say
@@ -116,7 +116,7 @@ module _ (es : List Event) where
 
   -- how many are held with one event more, by what it says
   held-said : (e : Event) → goesOn e ≡ true → (s : Setting) (es' : List (fifo.Event (List ℕ)))
-      → heldAfter s (onto (saysHere es e) es') ≡ pick (isSample e) (min (s .depth) (suc (heldAfter s es'))) (heldAfter s es' - asks (s .size) e)
+      → heldAfter s (onto (saysHere es e) es') ≡ pick (isSample e) (min (s .depth) (suc (heldAfter s es'))) (heldAfter s es' - framesAskedBy (s .size) e)
   unfolding saysHere heldAfter
   held-said powerUp on s es' = cc
   held-said (write a byte) on s es' = rw (clears-not a byte on) (none-less (heldAfter s es'))
@@ -137,7 +137,7 @@ module _ (es : List Event) where
     same-setting : setting (e ∷ es) ≡ setting es
     same-setting = lawful .keeps es e (goes-on e on)
 
-    held-next : frameCount (e ∷ es) ≡ pick (isSample e) (min (setting es .depth) (suc (frameCount es))) (frameCount es - asks (frameSize es) e)
+    held-next : frameCount (e ∷ es) ≡ pick (isSample e) (min (setting es .depth) (suc (frameCount es))) (frameCount es - framesAskedBy (frameSize es) e)
     held-next =
         sym (over-clears-here (e ∷ es) .held)
         ∙ next-held accelerometer es e (saysHere es e) refl (setting es) same-setting
@@ -158,27 +158,27 @@ module _ (es later : List Event) (i : Later es later) (e : Event) (on : goesOn e
   abbrev h : List Event
   h = later ++ es
 
-  next-is : frameCount (e ∷ h) ≡ pick (isSample e) (min (setting es .depth) (suc (frameCount h))) (frameCount h - asks (frameSize es) e)
-  next-is = held-next h e on ∙ ap (λ (s : Setting). pick (isSample e) (min (s .depth) (suc (frameCount h))) (frameCount h - asks (s .size) e)) (i .set)
+  next-is : frameCount (e ∷ h) ≡ pick (isSample e) (min (setting es .depth) (suc (frameCount h))) (frameCount h - framesAskedBy (frameSize es) e)
+  next-is = held-next h e on ∙ ap (λ (s : Setting). pick (isSample e) (min (s .depth) (suc (frameCount h))) (frameCount h - framesAskedBy (s .size) e)) (i .set)
 
   fits : frameCount h ≤ setting es .depth
   fits = omega (arith, demand3 h .demand .few, ap (λ (s : Setting). s .depth) (i .set))
 
-  least-next : frameCount es ≤ frameCount (e ∷ h) + (asks (frameSize es) e + framesAsked (frameSize es) later)
+  least-next : frameCount es ≤ frameCount (e ∷ h) + (framesAskedBy (frameSize es) e + framesAsked (frameSize es) later)
   least-next = go (isSample e) next-is
     where
-      go : (t : Bool) → frameCount (e ∷ h) ≡ pick t (min (setting es .depth) (suc (frameCount h))) (frameCount h - asks (frameSize es) e)
-          → frameCount es ≤ frameCount (e ∷ h) + (asks (frameSize es) e + framesAsked (frameSize es) later)
+      go : (t : Bool) → frameCount (e ∷ h) ≡ pick t (min (setting es .depth) (suc (frameCount h))) (frameCount h - framesAskedBy (frameSize es) e)
+          → frameCount es ≤ frameCount (e ∷ h) + (framesAskedBy (frameSize es) e + framesAsked (frameSize es) later)
       go true q = omega (arith, q, i .least, fits)
       go false q = omega (arith, q, i .least)
 
-  many-next : asks (frameSize es) e + framesAsked (frameSize es) later ≡ 0 → frameCount (e ∷ h) ≡ min (setting es .depth) (frameCount es + (worth 1 (isSample e) + arrived later))
+  many-next : framesAskedBy (frameSize es) e + framesAsked (frameSize es) later ≡ 0 → frameCount (e ∷ h) ≡ min (setting es .depth) (frameCount es + (worth 1 (isSample e) + arrived later))
   many-next none =
       let m = i .many (omega arith) in
       go m (isSample e) next-is
     where
       go : frameCount h ≡ min (setting es .depth) (frameCount es + arrived later) → (t : Bool)
-          → frameCount (e ∷ h) ≡ pick t (min (setting es .depth) (suc (frameCount h))) (frameCount h - asks (frameSize es) e)
+          → frameCount (e ∷ h) ≡ pick t (min (setting es .depth) (suc (frameCount h))) (frameCount h - framesAskedBy (frameSize es) e)
           → frameCount (e ∷ h) ≡ min (setting es .depth) (frameCount es + (worth 1 t + arrived later))
       go m true q = omega (arith, q, m)
       go m false q = omega (arith, q, m, none)

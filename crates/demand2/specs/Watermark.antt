@@ -61,12 +61,12 @@ arrived [] = 0
 arrived (e ∷ es) = worth 1 (isSample e) + arrived es
 
 -- how many frames of size bytes a readout asks for: "A frame counts as taken once its first byte is read"
-abbrev pub asks : ℕ → Event → ℕ
-asks size e = atRead 0 (λ a n. pick (readsOut a n) (begun size n) 0) e
+abbrev pub framesAskedBy : ℕ → Event → ℕ
+framesAskedBy size e = atRead 0 (λ a n. pick (readsOut a n) (begun size n) 0) e
 
 abbrev pub framesAsked : ℕ → List Event → ℕ
 framesAsked size [] = 0
-framesAsked size (e ∷ es) = asks size e + framesAsked size es
+framesAsked size (e ∷ es) = framesAskedBy size e + framesAsked size es
 
 -- ---- of the histories whose written bytes are bytes
 pub record Watermark (es : List Event) : Type 0 where

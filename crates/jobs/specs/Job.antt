@@ -42,5 +42,5 @@ worker = record {
 }
 
 -- how many records came
-abbrev pub recordsIn : Job → ℕ
-recordsIn j = pick (j .answers) (j .answering .account .number) (j .replay .number - 1)
+abbrev pub recordCount : Job → ℕ
+recordCount j = pick (j .answers) (j .answering .account .number) (j .replay .number - 1)

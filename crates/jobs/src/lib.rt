@@ -4,7 +4,7 @@ ghost use mathlib.Core.Bool.{true, false};
 ghost use mathlib.Core.Path.{_≡_};
 ghost use lib.ListN.{length};
 ghost use Rattle.follow.specs.Follow.{runOf, Running};
-ghost use Rattle.jobs.specs.Job.{inKind, toReplay, toAnswer, worker, recordsIn};
+ghost use Rattle.jobs.specs.Job.{inKind, toReplay, toAnswer, worker, recordCount};
 use answers::Answering;
 use answers::Asked;
 use follow::Next;
@@ -59,7 +59,7 @@ impl Job {
 
     // How many records came.
     pub fn records(self) -> u64
-        ensures { λ r. ⌜ r ≡ recordsIn self ⌝ }
+        ensures { λ r. ⌜ r ≡ recordCount self ⌝ }
     {
         let replay = self.replay;
         let answering = self.answering;

@@ -40,7 +40,7 @@ use Rattle.benchlog.specs.Writer.{roomFor, writtenAs, written, placedAs, outAft
 use Rattle.benchlog.specs.declared.Room.{Room}
 use Rattle.benchlog.specs.declared.Room.the-variants as room
 use Rattle.benchlog.proofs.Exactly.{read-answers, version-answers, write-answers}
-use Rattle.outcomes.specs.Numbers.{AboveLast, ReservedWrite, DetectorWrite, PowerModeWrite, TestOrTrimWrite, LackingWrite, SomeOutside, WrongReadLength, Passing}
+use Rattle.outcomes.specs.Numbers.{AboveLast, ReservedWrite, DetectorWrite, PowerModeWrite, TestOrTrimWrite, LackingWrite, SomeOutside, WrongReadLength, PassesEnd}
 use Rattle.outcomes.specs.Numbers.{isReservedWrite, isDetectorWrite, isPowerModeWrite, isTestOrTrimWrite, answersTo, NothingElse}
 use Rattle.outcomes.proofs.Words.{Means, no, when, same-test, isnt, likewise, last, less, equal, and, or, reserved-is, last-row, some-number, detector-is, power-mode-is, test-or-trim-is, outside}
 
@@ -142,10 +142,10 @@ module _ (d : Device) (a n : ℕ) where
   is-wrong : Means (either (eqb n 0) (ltb 192 n)) (WrongReadLength n)
   is-wrong = or (equal n 0) (less 192 n)
 
-  is-passing : Means (both (ltb a 0x3F) (ltb 0x3F (a + n))) (Passing a n)
+  is-passing : Means (both (ltb a 0x3F) (ltb 0x3F (a + n))) (PassesEnd a n)
   is-passing = and (less a 0x3F) (λ _. less 0x3F (a + n))
 
-  pub read-0 : (number (readOf d a n .answer) ≡ 0) ↔ (¬ AboveLast a × (¬ WrongReadLength n × ¬ Passing a n))
+  pub read-0 : (number (readOf d a n .answer) ≡ 0) ↔ (¬ AboveLast a × (¬ WrongReadLength n × ¬ PassesEnd a n))
   read-0 = when (read-exactly d a n 0) (and (isnt (less 0x3F a)) (λ _. and (isnt is-wrong) (λ _. last (isnt is-passing))))
 
   pub read-1 : (number (readOf d a n .answer) ≡ 1) ↔ AboveLast a
@@ -154,7 +154,7 @@ module _ (d : Device) (a n : ℕ) where
   pub read-5 : (number (readOf d a n .answer) ≡ 5) ↔ (¬ AboveLast a × WrongReadLength n)
   read-5 = when (read-exactly d a n 5) (and (isnt (less 0x3F a)) (λ _. is-wrong))
 
-  pub read-6 : (number (readOf d a n .answer) ≡ 6) ↔ (¬ AboveLast a × (¬ WrongReadLength n × Passing a n))
+  pub read-6 : (number (readOf d a n .answer) ≡ 6) ↔ (¬ AboveLast a × (¬ WrongReadLength n × PassesEnd a n))
   read-6 = when (read-exactly d a n 6) (and (isnt (less 0x3F a)) (λ _. and (isnt is-wrong) (λ _. is-passing)))
 
 -- a sample tests 4

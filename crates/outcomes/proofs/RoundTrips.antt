@@ -21,7 +21,7 @@ use Rattle.benchlog.proofs.Heads.{head-end, found-end, next-behind}
 use Rattle.benchlog.proofs.Trips.{written-read, read-written-at, read-proper-at, written-read-at}
 use Rattle.benchlog.proofs.Logs.{version-read, version-found}
 use Rattle.outcomes.specs.LogNumbers.{spelled}
-use Rattle.outcomes.specs.RoundTrips.{WritesJust, WrittenThenRead, ReadThenWritten, allSpelled, logSpelled, FindsAll, ReadsAs, leftByAll, leftByLog, RoundTrips}
+use Rattle.outcomes.specs.RoundTrips.{WritesJust, WrittenThenRead, ReadThenWritten, allSpelled, logSpelled, FindsAll, LogReadsAs, leftByAll, leftByLog, RoundTrips}
 use Rattle.outcomes.proofs.LogRefusals.{encode-spelled}
 
 -- ---- bytes for which there is room
@@ -105,7 +105,7 @@ all-found log bytes (e ∷ es) place f =
     let behind : drop n (drop place log) ≡ allSpelled es = drop-drop n place log ∙ ap (λ (k : ℕ). drop k log) (sym (one .next)) ∙ rest .0 in
     (sym (take-append-drop n (drop place log)) ∙ rw (one .here, behind), (one .fits, rest .1))
 
-log-found : (log : List ℕ) → Bytes log → (es : List Entry) → ReadsAs log es → (log ≡ logSpelled es) × AllFieldsFit es
+log-found : (log : List ℕ) → Bytes log → (es : List Entry) → LogReadsAs log es → (log ≡ logSpelled es) × AllFieldsFit es
 log-found log bytes es r =
     let v = version-found log (r .0) in
     let all = all-found log bytes es 1 (rw (v .1) at r .1) in

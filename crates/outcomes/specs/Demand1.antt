@@ -14,7 +14,7 @@ use Rattle.benchlog.specs.Reader.{readAt, readVersion}
 use Rattle.benchlog.specs.Whole.{readLog, logNumber}
 use Rattle.benchlog.specs.Writer.{written, outAfter}
 use Rattle.benchlog.specs.declared.Entry.{Entry}
-use Rattle.outcomes.specs.Numbers.{AboveLast, ReservedWrite, DetectorWrite, PowerModeWrite, TestOrTrimWrite, SomeOutside, WrongReadLength, Passing}
+use Rattle.outcomes.specs.Numbers.{AboveLast, ReservedWrite, DetectorWrite, PowerModeWrite, TestOrTrimWrite, SomeOutside, WrongReadLength, PassesEnd}
 use Rattle.outcomes.specs.LogNumbers.{EmptyLog, NotVersionOne, WrongRecordLength, BodyCut, RightKind, spelled, NoRoomForVersion, NoRoomForRecord}
 
 -- ---- 01, "Numbers given back": "Given exactly when"
@@ -37,7 +37,7 @@ Due (write a byte) =
     else 12 when PowerModeWrite a byte
     else 13 when TestOrTrimWrite a byte
     else done
-Due (read a n) = 1 when AboveLast a else 5 when WrongReadLength n else 6 when Passing a n else done
+Due (read a n) = 1 when AboveLast a else 5 when WrongReadLength n else 6 when PassesEnd a n else done
 Due (sample x y z temperature) = 4 when SomeOutside x y z else done
 Due cycle = done
 Due (clock us) = done

@@ -83,8 +83,8 @@ abbrev pub WrongReadLength : ℕ → Type 0
 WrongReadLength n = (n ≡ 0) ⊎ (192 < n)
 
 -- 6, "read starting below 0x3F that would pass 0x3E": n bytes from a on end before a + n
-abbrev pub Passing : ℕ → ℕ → Type 0
-Passing a n = (a < 0x3F) × (0x3F < a + n)
+abbrev pub PassesEnd : ℕ → ℕ → Type 0
+PassesEnd a n = (a < 0x3F) × (0x3F < a + n)
 
 -- ---- the numbers that an event, a reader or a writer is answered with
 -- "A write tests 1, 2, 3; a read tests 1, 5, 6"; 4 is a sample's. In 3's place 11 to 13 stand: "3 is never given again", and

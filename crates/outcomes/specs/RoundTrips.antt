@@ -66,8 +66,8 @@ FindsAll log place [] = readAt log place .found ≡ End
 FindsAll log place (e ∷ es) = (readAt log place .found ≡ Record e) × FindsAll log (readAt log place .next) es
 
 -- a log is read to its end without a refusal: its version, and behind that these records
-abbrev pub ReadsAs : List ℕ → List Entry → Type 0
-ReadsAs log es = (readVersion log .begins ≡ Version) × FindsAll log (readVersion log .next) es
+abbrev pub LogReadsAs : List ℕ → List Entry → Type 0
+LogReadsAs log es = (readVersion log .begins ≡ Version) × FindsAll log (readVersion log .next) es
 
 -- the writer is called at a place, and again at each next place, with these records: which bytes are left
 abbrev pub leftByAll : List ℕ → ℕ → List Entry → List ℕ
@@ -84,9 +84,9 @@ pub record RoundTrips : Type 0 where
   pub written-read : (e : Entry) → FieldsFit e → (out : List ℕ) (place : ℕ) → place + length (spelled e) ≤ length out → WrittenThenRead e out place
   pub read-written : (log : List ℕ) → Bytes log → (place : ℕ) (e : Entry) → readAt log place .found ≡ Record e → ReadThenWritten log place e
   -- of a log: one that is spelled reads as its records and then the end
-  pub spelled-reads : (es : List Entry) → AllFieldsFit es → ReadsAs (logSpelled es) es
+  pub spelled-reads : (es : List Entry) → AllFieldsFit es → LogReadsAs (logSpelled es) es
   -- one that reads as records and then the end is spelled, of these records
-  pub reads-spelled : (log : List ℕ) → Bytes log → (es : List Entry) → ReadsAs log es → (log ≡ logSpelled es) × AllFieldsFit es
+  pub reads-spelled : (log : List ℕ) → Bytes log → (es : List Entry) → LogReadsAs log es → (log ≡ logSpelled es) × AllFieldsFit es
   -- and one that is written, record by record, where there is room for it, is spelled; the bytes behind it are as they were
   pub writes-spelled : (es : List Entry) (out : List ℕ) → length (logSpelled es) ≤ length out
       → leftByLog out es ≡ logSpelled es ++ drop (length (logSpelled es)) out

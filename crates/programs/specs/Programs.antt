@@ -24,7 +24,7 @@ pub record Followed (printed : List ℕ → List ℕ) (job : Job) (how : How) (w
   pub may : MayFollow (stopped .last .done) rest
   pub log-is : log ≡ joined (stopped .last .parts) ++ rest
 
--- a read or a write failed, or more came than the turns of a pump can do
+-- the pump says that a read or a write failed, or that more came than its turns can do; whether a call did is no contract's to say (docs/LOOSER.md)
 abbrev pub Failed : How → Type 0
 Failed how = (how ≡ NotRead) ⊎ ((how ≡ NotWritten) ⊎ (how ≡ On))
 
@@ -39,7 +39,7 @@ pub record StatusMeans (printed : List ℕ → List ℕ) (job : Job) : Type 0 wh
   -- 3 exactly where 7, 8 or 9 is due of it
   pub refused : (how : How) (whole : ℕ) (log : List ℕ) → Followed printed job how whole log
       → (statusOf how ≡ 3) ↔ (DueOfLog log 7 ⊎ (DueOfLog log 8 ⊎ DueOfLog log 9))
-  -- 1 exactly where a call failed, or the input was too long
+  -- 1 exactly where the pump says that a call failed, or that the input was too long
   pub failed : (how : How) → (statusOf how ≡ 1) ↔ Failed how
   -- and what goes to descriptor 3 is its digit
   pub digit : (how : How) → digitOf (statusOf how) ∷ [] ≡ decimal (statusOf how)
@@ -51,6 +51,6 @@ pub record ReadMeans : Type 0 where
   -- and else all that came counts: the end is where nothing did
   pub came : (k room : ℕ) → k ≤ room → (gotOf (pos k) room .failed ≡ false) × (gotOf (pos k) room .count ≡ k)
 
--- ---- a program that was not used as it is meant to be gives 2
+-- ---- the digit of a program that was not used as it is meant to be is 2. That it is told there alone is required in the programs (tell_misused)
 pub record MisuseMeans : Type 0 where
   pub digit : digitOf misused ∷ [] ≡ decimal 2

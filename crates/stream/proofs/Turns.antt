@@ -23,7 +23,7 @@ use Rattle.window.proofs.Places.{unused-few, unused-past, past-within}
 use Rattle.stream.specs.declared.State.{State}
 use Rattle.stream.specs.declared.How.{How}
 use Rattle.stream.specs.declared.How.the-variants.{On, Stopped, NotRead, NotWritten}
-use Rattle.stream.specs.Pump.{ranOver, afterRun, ranTo, seeing, isOn, isWait, howAfter, ReadMore, Went, emptied, refilled, ReadAs, BehindRun, BehindWrite, TurnedAs}
+use Rattle.stream.specs.Pump.{ranOver, afterRun, ranTo, seeing, isOn, isWait, howAfter, ReadMore, Went, emptied, refilled, MoreReadAs, BehindRun, BehindWrite, TurnedAs}
 
 pub is-waiting : (n : Next) → isWait n ≡ true → n ≡ Wait
 is-waiting Go e = let z : _≡_ {A = ℕ} 0 1 = cc in absurd (omega arith)
@@ -67,10 +67,10 @@ module _ (s : State) (buffer : List ℕ) (room : ℕ) {ran : Ran} {out out′ : 
       go Full e f = (emptied (sym (is .next-is) ∙ e) next-is refl, next-within)
       go Stop e f = (sym (is .next-is) ∙ e, sym (is .refusal-is), next-is)
 
-  pub turned-by-read : (how : How) (s′ : State) (buffer′ : List ℕ) → isWait (ran .next) ≡ true → HasRoom (next .window) buffer → ReadAs how next buffer s′ buffer′ → TurnedAs how s buffer room s′ buffer′
+  pub turned-by-read : (how : How) (s′ : State) (buffer′ : List ℕ) → isWait (ran .next) ≡ true → HasRoom (next .window) buffer → MoreReadAs how next buffer s′ buffer′ → TurnedAs how s buffer room s′ buffer′
   turned-by-read how s′ buffer′ w room-left = go how (sym (is .next-is) ∙ is-waiting (ran .next) w)
     where
-      go : (h : How) → ranOver s buffer room .next ≡ Wait → ReadAs h next buffer s′ buffer′ → TurnedAs h s buffer room s′ buffer′
+      go : (h : How) → ranOver s buffer room .next ≡ Wait → MoreReadAs h next buffer s′ buffer′ → TurnedAs h s buffer room s′ buffer′
       go On e r = (refilled e (subst (λ (t : State). ReadMore t buffer s′ buffer′) next-is (r .0)), r .1)
       go (Stopped refusal) e r = absurd r
       go NotRead e r = (e, r ∙ ap (λ (t : State). seeing t (atFront (t .window) buffer)) next-is, subst (λ (t : State). HasRoom (t .window) buffer) next-is room-left)

@@ -10,7 +10,7 @@ use Rattle.follow.specs.Follow.{Turn, runOf}
 use Rattle.follow.specs.Whole.{joined}
 use Rattle.follow.specs.declared.Next.{Next}
 use Rattle.follow.specs.declared.Next.the-variants.{Go, Wait, Full, Stop}
-use Rattle.jobs.specs.Job.{worker, recordsIn}
+use Rattle.jobs.specs.Job.{worker, recordCount}
 use Rattle.jobs.specs.declared.Job.{Job}
 use Rattle.jobs.specs.declared.Ran.{Ran}
 use Rattle.window.specs.Window.{start, Within, unused, past, atFront, HasRoom, Refilled}
@@ -30,7 +30,7 @@ ranOver s buffer room = runOf worker (s .job) (unused (s .window) buffer) (s .wi
 
 -- after a run that came to this job and used so many bytes, and whose text is written
 abbrev pub afterRun : State → Job → ℕ → State
-afterRun s j used = record { job = j; window = past (s .window) used; whole = recordsIn j }
+afterRun s j used = record { job = j; window = past (s .window) used; whole = recordCount j }
 
 -- after that run
 abbrev pub ranTo : State → List ℕ → ℕ → State
@@ -72,15 +72,15 @@ isOn NotRead = false
 isOn NotWritten = false
 
 -- what reading more comes to
-abbrev pub ReadAs : How → State → List ℕ → State → List ℕ → Type 0
-ReadAs On s buffer s′ buffer′ = ReadMore s buffer s′ buffer′ × Within (s′ .window) (length buffer)
-ReadAs (Stopped refusal) s buffer s′ buffer′ = ⊥
-ReadAs NotRead s buffer s′ buffer′ = s′ ≡ seeing s (atFront (s .window) buffer)
-ReadAs NotWritten s buffer s′ buffer′ = ⊥
+abbrev pub MoreReadAs : How → State → List ℕ → State → List ℕ → Type 0
+MoreReadAs On s buffer s′ buffer′ = ReadMore s buffer s′ buffer′ × Within (s′ .window) (length buffer)
+MoreReadAs (Stopped refusal) s buffer s′ buffer′ = ⊥
+MoreReadAs NotRead s buffer s′ buffer′ = s′ ≡ seeing s (atFront (s .window) buffer)
+MoreReadAs NotWritten s buffer s′ buffer′ = ⊥
 
 -- behind a run whose text is written, by whether it waits
 abbrev pub BehindRun : Bool → State → Ran → List ℕ → How → State → List ℕ → Type 0
-BehindRun true s ran buffer how s′ buffer′ = ReadAs how (afterRun s (ran .job) (ran .used)) buffer s′ buffer′
+BehindRun true s ran buffer how s′ buffer′ = MoreReadAs how (afterRun s (ran .job) (ran .used)) buffer s′ buffer′
 BehindRun false s ran buffer how s′ buffer′ = (how ≡ howAfter (ran .next) (ran .refusal)) × (s′ ≡ afterRun s (ran .job) (ran .used)) × (buffer′ ≡ buffer)
 
 -- behind a run, by whether its text is written
@@ -121,7 +121,7 @@ pub data TurnsDone (job : Job) : ℕ → List (List ℕ) → List (List ℕ) →
       → (went : Went s buffer room s′ buffer′)
       → TurnsDone job (suc n) (parts ++ partIn went) (blocks ++ (ranOver s buffer room .text ∷ [])) s′ buffer′
 
--- whether the end of the input was seen: a read gave nothing
+-- whether the end of the input was seen: the last read gave nothing
 abbrev pub isNone : List ℕ → Bool
 isNone [] = true
 isNone (byte ∷ bytes) = false

@@ -10,7 +10,7 @@ ghost use Rattle.playback.specs.Replay.{printed as Replay·printed};
 ghost use Rattle.answers.specs.Answer.{printed as Answer·printed};
 ghost use Rattle.jobs.specs.Job.{worker, toReplay, toAnswer};
 ghost use Rattle.window.specs.Window.{Within};
-ghost use Rattle.stream.specs.Pump.{pumpStart, ranOver, afterRun, isOn, isWait, howAfter, ReadAs, BehindWrite, TurnedAs, PumpedAs, statusOf};
+ghost use Rattle.stream.specs.Pump.{pumpStart, ranOver, afterRun, isOn, isWait, howAfter, MoreReadAs, BehindWrite, TurnedAs, PumpedAs, statusOf};
 use answers::Asked;
 use follow::Next;
 use handed::Delivered;
@@ -88,7 +88,7 @@ fn after_run(state: State, ran: Ran) -> State
 
 // More of the input behind what is not used.
 fn read_more(input: i32, state: State, buffer: &mut [u8]) -> Turned
-    ensures { λ r. ⌜ ReadAs (r .how) state (now (buffer .entry)) (r .state) (now (buffer .exit)) ⌝ }
+    ensures { λ r. ⌜ MoreReadAs (r .how) state (now (buffer .entry)) (r .state) (now (buffer .exit)) ⌝ }
 {
     let more = refill(input, state.window, buffer);
     let job = state.job;
