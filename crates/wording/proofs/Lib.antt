@@ -1,4 +1,3 @@
 pub mod Lines
 pub mod Cases
 pub mod OneOutcome
-pub mod Spelling

@@ -19,8 +19,8 @@ use Rattle.counts.specs.declared.Doubt.{Doubt}
 use Rattle.counts.specs.declared.Doubt.the-variants.{No, By}
 use Rattle.counts.specs.declared.Why.{Why}
 use Rattle.counts.specs.declared.Why.the-variants as why
 use Rattle.wording.specs.Wording.{rangeWord, modeWord, framesWord, doubtSign, whyWord, stretchColumns, stretchLine, modedLine, lastLine, signedColumn, sampleLine, wroteText, refusedLine, becauseText, rangeLine, modeLine, totalsLine, shortLine, overLine}
-use Rattle.wording.specs.Spelling.{gText, modeText, roomText, doubtText, because, whyText, coordinate, StretchSpelling, EndSpelling, ShortSpelling, SampleSpelling, RefusedSpelling, InForceSpelling, TotalsSpelling}
+use Rattle.spelling.specs.Spelling.{gText, modeText, roomText, doubtText, because, whyText, coordinate, StretchSpelling, EndSpelling, ShortSpelling, SampleSpelling, RefusedSpelling, InForceSpelling, TotalsSpelling}
 
 -- ---- words
 pub range-spelt : (r : Range) → inG r ≢ 0 → rangeWord r ≡ gText r
