@@ -2,7 +2,7 @@
 -- Assumes nothing.
 use Prim.Native.Nat.{ℕ, zero, suc, _%_}
 use mathlib.Core.Bool.{Bool, true, false}
-use mathlib.Core.List.{List, [], _∷_, _++_, append-assoc}
+use mathlib.Core.List.{List, [], _∷_, _++_}
 use mathlib.Core.Path.{_≡_, refl, sym, ap, _∙_, subst}
 use native.Mathlib.Omega.{arith}
 use lib.ListN.{length, drop}
@@ -20,9 +20,10 @@ use Rattle.benchlog.specs.declared.Found.the-variants as found
 use Rattle.benchlog.proofs.Bodies.{bytes-drop}
 use Rattle.benchlog.proofs.Trips.{read-proper-at}
 use Rattle.text.specs.Text.{ascii, decimal, lastDigits}
-use Rattle.counts.specs.Counts.{inG, differences, ends, sum}
+use Rattle.counts.specs.Counts.{inG, ends}
 use Rattle.counts.specs.declared.Account.{Account}
-use Rattle.wording.specs.Wording.{column, rangeWord, modeWord, doubtSign, whyWord, countsText, stretchColumns, stretchLine, modedLine, rangeLine}
+use Rattle.spelling.specs.Spelling.{spaced, gText, modeText, doubtText, countText, columnsThen}
+use Rattle.spelling.proofs.Spelling.{stretch-spelt, in-force-spelt}
 use Rattle.events.specs.Bank.{stored}
 use Rattle.events.specs.Event.{Event, powerUp, write, read, sample, cycle, clock}
 use Rattle.entries.specs.Entries.{eventOf}
@@ -42,8 +43,7 @@ use Rattle.answered.specs.Answered.{codeBy, SaysRange, doubtBy, ThirdCol
 abbrev in-words : ℕ → List ℕ
 in-words g = decimal g ++ ascii "g"
 
-word-is : (r : Range) → isReservedRange r ≡ false → rangeWord r ≡ in-words (inG r)
-unfolding decimal lastDigits
+word-is : (r : Range) → isReservedRange r ≡ false → gText r ≡ in-words (inG r)
 word-is G2 k = refl
 word-is G4 k = refl
 word-is G8 k = refl
@@ -54,10 +54,10 @@ module _ (es : List Event) (writes : ByteWrites es) where
   account-means : MeansG (codeBy es) (inG (accountOf es .range))
   account-means = subst (λ n. MeansG (n % 16) (inG (accountOf es .range))) (stored-is es writes 0x0F (omega arith)) (range-means (stored es rangeAt))
 
-  said : (g : ℕ) → inG (accountOf es .range) ≡ g → rangeWord (accountOf es .range) ≡ in-words g
+  said : (g : ℕ) → inG (accountOf es .range) ≡ g → gText (accountOf es .range) ≡ in-words g
   said g is = word-is (accountOf es .range) (range-known es) ∙ ap in-words is
 
-  pub says-range : SaysRange es (rangeWord (accountOf es .range))
+  pub says-range : SaysRange es (gText (accountOf es .range))
   unfolding decimal lastDigits
   says-range = record {
     2g = λ h. said 2 (account-means .two .1 h);
@@ -68,16 +68,10 @@ module _ (es : List Event) (writes : ByteWrites es) where
   }
 
   pub told-range : ToldRange es
-  unfolding rangeLine
-  told-range = record { word = rangeWord (accountOf es .range); line = refl; says = says-range }
+  told-range = record { word = gText (accountOf es .range); line = in-force-spelt (accountOf es) .range; says = says-range }
 
 -- ---- the third column
--- f from, t to, w word, d doubt, s space, c the counts and why, n what ends the line
-shifted : (f t w d s c n : List ℕ) → (f ++ (t ++ ((w ++ (d ++ s)) ++ c))) ++ n ≡ f ++ (t ++ (w ++ (d ++ (s ++ (c ++ n)))))
-shifted f t w d s c n = simp append-assoc
-
 third-column : (moded : Bool) (s : Stretch) → ByteWrites (seenAt s) → ThirdColumn moded s
-unfolding stretchLine modedLine stretchColumns
 third-column moded s writes = go moded
   where
     from : Account
@@ -89,21 +83,19 @@ third-column moded s writes = go moded
     to : Account
     to = accountOf (s .to)
 
-    counts : List ℕ
-    counts = countsText (differences (from .counts) (to .counts)) (to .held) ++ whyWord (s .why)
-
-    -- by what stands behind WHY
-    ending-in : (m : Bool) (end : List ℕ) → lineOf m s ≡ stretchColumns from seen to (s .why) ++ end → ThirdColumn m s
-    ending-in m end is = record {
-      word = rangeWord (seen .range);
-      columnsBehind = counts ++ end;
-      line = is ∙ shifted (column (sum (length (s .from)) 1)) (column (length (s .to))) (rangeWord (seen .range)) (doubtSign (doubtBy (seenAt s))) (ascii " ") counts end;
+    -- by the columns behind WHY
+    with-more : (m : Bool) (more : List (List ℕ)) → lineOf m s ≡ spaced (columnsThen from to seen (s .why) more) → ThirdColumn m s
+    with-more m more is = record {
+      word = gText (seen .range);
+      fourth = countText from to (λ n. n .accepted);
+      columnsBehind = drop 4 (columnsThen from to seen (s .why) more);
+      line = is;
       says = says-range (seenAt s) writes;
     }
 
     go : (m : Bool) → ThirdColumn m s
-    go true = ending-in true (ascii " " ++ (modeWord (seen .mode) ++ (doubtSign (seen .doubts .mode) ++ ascii "\n"))) refl
-    go false = ending-in false (ascii "\n") refl
+    go true = with-more true ((modeText (seen .mode) ++ doubtText (seen .doubts .mode)) ∷ []) (stretch-spelt from to seen (s .why) .moded)
+    go false = with-more false [] (stretch-spelt from to seen (s .why) .plain)
 
 -- ---- any events
 -- an earlier history writes no more

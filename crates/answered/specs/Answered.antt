@@ -2,15 +2,16 @@
 -- the latest event stands first.
 use Prim.Native.Nat.{ℕ, _%_}
 use mathlib.Core.Bool.{Bool}
-use mathlib.Core.List.{List, _++_}
+use mathlib.Core.List.{List, _∷_, _++_}
 use mathlib.Core.Path.{_≡_}
 use lib.ListN.{length}
-use Rattle.text.specs.Text.{ascii}
+use Rattle.text.specs.Text.{ascii, decimal}
 use Rattle.events.specs.Event.{Event}
 use Rattle.rules.specs.Stored.{byteBy}
 use Rattle.counts.specs.Counts.{sum}
 use Rattle.counts.specs.declared.Doubt.{Doubt}
-use Rattle.wording.specs.Wording.{column, doubtSign, fromText, becauseText, rangeLine}
+use Rattle.wording.specs.Wording.{rangeLine}
+use Rattle.spelling.specs.Spelling.{spaced, doubtText, because, fromThen}
 use Rattle.stretches.specs.Histories.{accountOf, doubtOf, noRange, Stretch, Part, Each}
 use Rattle.told.specs.Plain.{printedStretches, seenAt, lineOf}
 use Rattle.ranges.specs.Ranges.{IsOther}
@@ -34,15 +35,16 @@ doubtBy es = doubtOf 0x0F noRange es
 -- "FROM TO RANGE ..": the third column of a stretch's line, "before its last record acts", with its mode or without
 pub record ThirdColumn (moded : Bool) (s : Stretch) : Type 0 where
   pub word : List ℕ
-  pub columnsBehind : List ℕ
+  pub fourth : List ℕ
+  pub columnsBehind : List (List ℕ)
   pub line : lineOf moded s
-      ≡ column (sum (length (s .from)) 1) ++ (column (length (s .to)) ++ (word ++ (doubtSign (doubtBy (seenAt s)) ++ (ascii " " ++ columnsBehind))))
+      ≡ spaced (decimal (sum (length (s .from)) 1) ∷ decimal (length (s .to)) ∷ (word ++ doubtText (doubtBy (seenAt s))) ∷ fourth ∷ columnsBehind)
   pub says : SaysRange (seenAt s) word
 
 -- in words, the range that is in force behind a history
 pub record ToldRange (es : List Event) : Type 0 where
   pub word : List ℕ
-  pub line : rangeLine (accountOf es) ≡ fromText (length es) ++ (word ++ (doubtSign (doubtBy es) ++ becauseText (doubtBy es) 0x0F))
+  pub line : rangeLine (accountOf es) ≡ spaced (fromThen (accountOf es) (word ++ (doubtText (doubtBy es) ++ because (doubtBy es) 0x0F)))
   pub says : SaysRange es word
 
 -- of a whole log's events: every line of a stretch, and the words behind any of its records

@@ -2,7 +2,6 @@
 -- Assumes nothing.
 use Prim.Native.Nat.{ℕ}
 use mathlib.Core.List.{_++_, append-assoc}
-use mathlib.Core.Logic.{_≢_}
 use mathlib.Core.Path.{_≡_, refl}
 use native.Mathlib.Omega.{arith}
 use borrow.Author.Tests.{ne-eqb, le-ltb}
@@ -13,7 +12,6 @@ use Rattle.codes.specs.declared.Mode.the-variants as mode
 use Rattle.codes.specs.declared.Range.{Range}
 use Rattle.codes.specs.declared.Range.the-variants.{G2, G4, G8, G16, Reserved}
 use Rattle.text.specs.Text.{ascii, decimal, lastDigits}
-use Rattle.counts.specs.Counts.{inG}
 use Rattle.counts.specs.declared.Account.{Account}
 use Rattle.counts.specs.declared.Doubt.{Doubt}
 use Rattle.counts.specs.declared.Doubt.the-variants.{No, By}
@@ -23,13 +21,13 @@ use Rattle.wording.specs.Wording.{rangeWord, modeWord, framesWord, doubtSign, w
 use Rattle.spelling.specs.Spelling.{gText, modeText, roomText, doubtText, because, whyText, coordinate, StretchSpelling, EndSpelling, ShortSpelling, SampleSpelling, RefusedSpelling, InForceSpelling, TotalsSpelling}
 
 -- ---- words
-pub range-spelt : (r : Range) → inG r ≢ 0 → rangeWord r ≡ gText r
+pub range-spelt : (r : Range) → rangeWord r ≡ gText r
 unfolding decimal lastDigits
-range-spelt G2 h = refl
-range-spelt G4 h = refl
-range-spelt G8 h = refl
-range-spelt G16 h = refl
-range-spelt Reserved h = absurd (h refl)
+range-spelt G2 = refl
+range-spelt G4 = refl
+range-spelt G8 = refl
+range-spelt G16 = refl
+range-spelt Reserved = refl
 
 pub mode-spelt : (m : Mode) → modeWord m ≡ modeText m
 mode-spelt Bypass = refl
@@ -69,8 +67,8 @@ module _ (from behind before : Account) (w : Why) where
   pub stretch-spelt : StretchSpelling from behind before w
   unfolding stretchColumns stretchLine modedLine
   stretch-spelt = record {
-    plain = λ h. simp (range-spelt (before .range) h, sign-spelt (before .doubts .range), why-spelt w, append-assoc);
-    moded = λ h. simp (range-spelt (before .range) h, sign-spelt (before .doubts .range), sign-spelt (before .doubts .mode), mode-spelt (before .mode), why-spelt w, append-assoc);
+    plain = simp (range-spelt (before .range), sign-spelt (before .doubts .range), why-spelt w, append-assoc);
+    moded = simp (range-spelt (before .range), sign-spelt (before .doubts .range), sign-spelt (before .doubts .mode), mode-spelt (before .mode), why-spelt w, append-assoc);
   }
 
 pub end-spelt : (records refusal : ℕ) → EndSpelling records refusal
@@ -102,7 +100,7 @@ refused-spelt number byte address refusal = simp append-assoc
 pub in-force-spelt : (a : Account) → InForceSpelling a
 unfolding rangeLine modeLine
 in-force-spelt a = record {
-  range = λ h. simp (range-spelt (a .range) h, sign-spelt (a .doubts .range), because-spelt (a .doubts .range) 0x0F, append-assoc);
+  range = simp (range-spelt (a .range), sign-spelt (a .doubts .range), because-spelt (a .doubts .range) 0x0F, append-assoc);
   mode = simp (mode-spelt (a .mode), sign-spelt (a .doubts .mode), room-spelt (a .mode), because-spelt (a .doubts .mode) 0x3E, append-assoc);
 }
 

@@ -5,7 +5,9 @@ use mathlib.Core.Bool.{Bool, true, false}
 use mathlib.Core.List.{List, [], _∷_, _++_}
 use mathlib.Core.Logic.{_≢_}
 use mathlib.Core.Path.{_≡_}
+use lib.Dec.{eqb}
 use lib.IntN.{ℤ, pos, negsuc}
+use Rattle.laws.specs.Choice.{pick}
 use Rattle.codes.specs.declared.Mode.{Mode}
 use Rattle.codes.specs.declared.Mode.the-variants.{Bypass, Fifo, Stream}
 use Rattle.codes.specs.declared.Mode.the-variants as mode
@@ -29,7 +31,7 @@ spaced (w ∷ v ∷ ws) = w ++ (ascii " " ++ spaced (v ∷ ws))
 -- ---- words
 -- "`2g`, `4g`, `8g` or `16g`"; no other range is ever in force
 abbrev pub gText : Range → List ℕ
-gText r = decimal (inG r) ++ ascii "g"
+gText r = pick (eqb (inG r) 0) (ascii "?") (decimal (inG r)) ++ ascii "g"
 
 -- "`BYPASS`, `FIFO` or `STREAM`", and the frames that it has room for: "BYPASS, with room for one frame"; 32. No other is ever in force
 abbrev pub modeText : Mode → List ℕ
@@ -114,9 +116,9 @@ module _ (from behind : Account) where
         ∷ more
 
     pub record StretchSpelling : Type 0 where
-      pub plain : inG (before .range) ≢ 0 → stretchLine from before behind w ≡ spaced (columnsThen [])
+      pub plain : stretchLine from before behind w ≡ spaced (columnsThen [])
       -- with "MODE" as "the last column"
-      pub moded : inG (before .range) ≢ 0 → modedLine from before behind w ≡ spaced (columnsThen ((modeText (before .mode) ++ doubtText (before .doubts .mode)) ∷ []))
+      pub moded : modedLine from before behind w ≡ spaced (columnsThen ((modeText (before .mode) ++ doubtText (before .doubts .mode)) ∷ []))
 
 -- "The last line is `end N`, N records, or `stop N R`: record N was refused R"; "0 stands for the version byte". And in words: "`the log ends
 -- after record 89`, or `the log was refused 9 at record 4`; record 0 is the version byte"
@@ -165,6 +167,6 @@ module _ (a : Account) where
   fromThen said = ascii "from record" ∷ (decimal (sum (a .number) 1) ++ ascii ":") ∷ said ∷ []
 
   pub record InForceSpelling : Type 0 where
-    pub range : inG (a .range) ≢ 0 → rangeLine a ≡ spaced (fromThen (gText (a .range) ++ (doubtText (a .doubts .range) ++ because (a .doubts .range) 0x0F)))
+    pub range : rangeLine a ≡ spaced (fromThen (gText (a .range) ++ (doubtText (a .doubts .range) ++ because (a .doubts .range) 0x0F)))
     pub mode : modeLine a
         ≡ spaced (fromThen (modeText (a .mode) ++ (doubtText (a .doubts .mode) ++ (roomText (a .mode) ++ because (a .doubts .mode) 0x3E))))
