@@ -1,13 +1,13 @@
 -- The store that is packed from frames stays packed, and means those frames. Over any room, depth, drop rule and frame size.
 -- Assumes nothing.
-use Prim.Native.Nat.{ℕ, zero, suc, _+_, _-_, _*_, _≤_, min}
+use Prim.Native.Nat.{ℕ, zero, suc, _+_, _-_, _*_, _/_, _≤_, min}
 use mathlib.Core.Path.{_≡_, refl, ap, sym, _∙_}
 use mathlib.Core.List.{List, [], _∷_, _++_, append-nil, append-assoc}
 use mathlib.Core.Bool.{Bool, true, false}
 use native.Mathlib.Omega.{arith}
-use native.Mathlib.Nat.{one-mul, zero-mul, suc-mul, mul-le-mul-right, lt-div-mul-add, zero-min, suc-min-suc}
+use native.Mathlib.Nat.{one-mul, zero-mul, suc-mul, mul-le-mul-right, lt-div-mul-add, mul-add-div-right, zero-min, suc-min-suc}
 use lib.ListN.{length, take, drop, length-append, length-drop, take-append-drop}
-use lib.Seq.{paste, take-all, take-at, length-take-le, drop-nil}
+use lib.Seq.{paste, take-all, take-at, length-take-le, drop-nil, drop-append-add}
 use lib.Dec.{ltb}
 use borrow.Author.Tests.{ltb-true, ltb-false}
 use Rattle.laws.specs.Bytes.{zeros, padded, firstOrZeros}
@@ -63,6 +63,14 @@ module _ (size : ℕ) where
   sized-drop zero fs s = s
   sized-drop (suc k) [] s = tt
   sized-drop (suc k) (f ∷ fs) s = sized-drop k fs (s .1)
+
+  -- the bytes behind k frames are those of the others
+  pub flat-drop : (k : ℕ) (fs : List (List ℕ)) → Sized size fs → drop (k * size) (flat fs) ≡ flat (drop k fs)
+  flat-drop zero fs s = rw zero-mul
+  flat-drop (suc k) [] s = drop-nil (suc k * size)
+  flat-drop (suc k) (f ∷ fs) s =
+      let e : suc k * size ≡ length f + k * size = omega (arith, suc-mul k size, s .0) in
+      ap (λ (j : ℕ). drop j (f ++ flat fs)) e ∙ drop-append-add f (flat fs) (k * size) ∙ flat-drop k fs (s .1)
 
   -- of the frames the first k go, the others move to the front, and the first p bytes of src, as many as went, are written behind them
   moved : (room k : ℕ) (fs : List (List ℕ)) (src : List ℕ) (p : ℕ) → Sized size fs → k ≤ length fs → p ≡ k * size
@@ -159,6 +167,12 @@ module _ {room most size : ℕ} {q : Queue (List ℕ)} (w : Framed room most siz
 -- the frames that b bytes reach have b bytes
 reached-covers : (size b : ℕ) → 1 ≤ size → b ≤ framesReached size b * size
 reached-covers size b h = omega (arith, lt-div-mul-add {a = b + (size - 1)} {b = size} h)
+
+-- k frames and b bytes reach k frames more than b bytes do
+pub reached-more : (size k b : ℕ) → 1 ≤ size → framesReached size (k * size + b) ≡ k + framesReached size b
+reached-more size k b h =
+    let e : k * size + b + (size - 1) ≡ k * size + (b + (size - 1)) = omega (arith, h) in
+    ap (λ (j : ℕ). j / size) e ∙ mul-add-div-right h k (b + (size - 1))
 
 pub first-taken : (size b : ℕ) (fs : List (List ℕ)) → 1 ≤ size → Sized size fs → firstOrZeros b (flat fs) ≡ firstOrZeros b (flat (take (framesReached size b) fs))
 first-taken size b fs h s = go (ltb (length fs) (framesReached size b)) refl

@@ -1,16 +1,19 @@
 -- What callers need of a chip's store: the one that is packed from frames stays packed, and means those frames; and bounds of its count.
 -- Over a store of any room and any depth for which it has room.
 -- Assumes nothing.
-use Prim.Native.Nat.{ℕ, _+_, _≤_}
-use mathlib.Core.Path.{_≡_, refl, _∙_}
-use mathlib.Core.List.{List}
+use Prim.Native.Nat.{ℕ, _+_, _*_, _≤_}
+use mathlib.Core.Path.{_≡_, refl, ap, sym, _∙_}
+use mathlib.Core.List.{List, _++_}
 use mathlib.Core.Bool.{Bool, true, false}
 use native.Mathlib.Omega.{arith}
-use lib.ListN.{length, take}
+use native.Mathlib.Nat.{add-zero, div-eq-of-lt}
+use lib.ListN.{length, take, drop}
+use lib.Seq.{drop-drop}
 use lib.Dec.{ltb}
 use borrow.Author.Tests.{ltb-true}
 use Rattle.laws.specs.Bits.{worth}
 use Rattle.laws.specs.Bytes.{padded, firstOrZeros}
+use Rattle.laws.proofs.Bytes.{first-cut}
 use Rattle.codes.specs.declared.Mode.{Mode}
 use Rattle.codes.specs.declared.Axes.{Axes}
 use Rattle.fifo.specs.declared.Setting.{Setting}
@@ -21,7 +24,7 @@ use Rattle.fifo.specs.Ledger.{Event}
 use Rattle.fifo.specs.Flat.{Flat, flat, packed, heldFrames, flatPushed, flatRead, numbersOf}
 use Rattle.fifo.specs.Store.{pushedIn, readIn, bytesIn, countIn, room, noFrames, emptied, statusAt}
 use Rattle.fifo.proofs.Bounds.{Deep, fitting-is, size-bounds, size-space, depth-most, depth-some}
-use Rattle.fifo.proofs.Meaning.{Framed, framed-empty, framed-without, framed-pushed, flat-pushed, flat-read, flat-bytes, flat-held, first-taken}
+use Rattle.fifo.proofs.Meaning.{Framed, framed-empty, framed-without, framed-pushed, flat-pushed, flat-read, flat-bytes, flat-held, flat-drop, reached-more, first-taken}
 use Rattle.fifo.proofs.Conserve.{Conserved, conserved}
 
 -- a queue that the FIFO of such a chip can hold: at most depth frames, each of the bytes of these axes
@@ -68,6 +71,32 @@ module _ {room depth : ℕ} {axes : Axes} {q : Queue (List ℕ)} (w : Fits room 
   pub count-packed : countIn room depth (numbersOf (packed room q)) ≡ length (q .frames)
   unfolding countIn
   count-packed = rw (fitting-is (w .deep)) (flat-held (w .framed))
+
+-- ---- the bytes of k frames are read and then n bytes: as if all were read at once, in bytes and in what stays
+front-reaches : (size k : ℕ) → 1 ≤ size → framesReached size (k * size) ≡ k
+front-reaches size k h =
+    let z : framesReached size 0 ≡ 0 = div-eq-of-lt (omega (arith, h)) in
+    ap (framesReached size) (sym (add-zero (k * size))) ∙ reached-more size k 0 h ∙ ap (λ (j : ℕ). k + j) z ∙ add-zero k
+
+module _ {room depth : ℕ} {axes : Axes} {q : Queue (List ℕ)} (w : Fits room depth axes q) (k n : ℕ) where
+  some : 1 ≤ sizeOf axes
+  some = size-bounds axes .0
+
+  pub read-cut : readIn room depth axes n (readIn room depth axes (k * sizeOf axes) (packed room q)) ≡ readIn room depth axes (k * sizeOf axes + n) (packed room q)
+  read-cut =
+      let m = k * sizeOf axes in
+      let r = framesReached (sizeOf axes) in
+      let d : drop (r n) (drop (r m) (q .frames)) ≡ drop (r (m + n)) (q .frames) =
+      drop-drop (r n) (r m) (q .frames) ∙ ap (λ (j : ℕ). drop j (q .frames)) (ap (λ (j : ℕ). j + r n) (front-reaches (sizeOf axes) k some) ∙ sym (reached-more (sizeOf axes) k n some)) in
+      ap (readIn room depth axes n) (read-packed w m) ∙ read-packed (fits-read w m) n ∙ (λ i. packed room (record { frames = d i; overrun = q .overrun })) ∙ sym (read-packed w (m + n))
+
+  pub bytes-cut : bytesIn room depth axes (k * sizeOf axes) (packed room q) ++ bytesIn room depth axes n (readIn room depth axes (k * sizeOf axes) (packed room q))
+      ≡ bytesIn room depth axes (k * sizeOf axes + n) (packed room q)
+  bytes-cut =
+      let m = k * sizeOf axes in
+      let d : drop m (flat (q .frames)) ≡ flat (drop (framesReached (sizeOf axes) m) (q .frames)) =
+      flat-drop (sizeOf axes) k (q .frames) (w .framed .sized) ∙ ap (λ (j : ℕ). flat (drop j (q .frames))) (sym (front-reaches (sizeOf axes) k some)) in
+      rw (read-packed w m, bytes-packed w m, bytes-packed (fits-read w m) n, bytes-packed w (m + n), ← d) (first-cut m n (flat (q .frames)))
 
 pub status-packed : {depth : ℕ} {axes : Axes} {q : Queue (List ℕ)} → Fits room depth axes q → statusAt depth (numbersOf (packed room q)) ≡ worth 128 (q .overrun) + length (q .frames)
 unfolding packed

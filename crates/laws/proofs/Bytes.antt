@@ -1,13 +1,16 @@
 -- Laws of copies in a store of bytes, and of zeros past an end.
 -- Assumes nothing.
 use Prim.Native.Nat.{ℕ, zero, suc, _+_, _-_, _≤_, _<_, min}
+use mathlib.Core.Bool.{Bool, true, false}
 use mathlib.Core.Path.{_≡_, refl, ap, sym, _∙_}
 use mathlib.Core.List.{List, [], _∷_, _++_, append-nil, append-assoc}
 use native.Mathlib.Omega.{arith}
 use native.Mathlib.Nat.{zero-add}
 use native.Mathlib.Numerals.{add-one}
-use lib.ListN.{length, take, drop, getD, set, replicate, length-append, length-set, length-take, length-drop, length-replicate, replicate-append-replicate}
-use lib.Seq.{paste, paste-zero, paste-suc, getD-take, getD-drop, getD-append-add, take-all, take-length, drop-length, length-take-le, take-at, drop-at, drop-drop, drop-append-add, take-append-le}
+use lib.ListN.{length, take, drop, getD, set, replicate, length-append, length-set, length-take, length-drop, length-replicate, replicate-append-replicate, drop-of-length-le}
+use lib.Seq.{paste, paste-zero, paste-suc, getD-take, getD-drop, getD-append-add, take-all, take-length, take-add, drop-length, length-take-le, take-at, drop-at, drop-drop, drop-append-add, take-append-le, drop-append-le}
+use lib.Dec.{ltb}
+use borrow.Author.Tests.{ltb-true, ltb-false}
 use Rattle.laws.specs.Bytes.{padded, firstOrZeros, zeros, between, movedForward}
 
 -- ---- a loop that copies
@@ -51,7 +54,7 @@ getD-zeros zero i = refl
 getD-zeros (suc n) zero = refl
 getD-zeros (suc n) (suc i) = getD-zeros n i
 
-drop-zeros : (k n : ℕ) → drop k (zeros n) ≡ zeros (n - k)
+pub drop-zeros : (k n : ℕ) → drop k (zeros n) ≡ zeros (n - k)
 unfolding zeros
 drop-zeros zero n = let e : n ≡ n - 0 = omega arith in ap (λ (m : ℕ). replicate m 0) e
 drop-zeros (suc k) zero = let e : 0 ≡ 0 - suc k = omega arith in ap (λ (m : ℕ). replicate m 0) e
@@ -70,6 +73,35 @@ length-first n bs = length-take-le n (bs ++ zeros n) (omega (arith, length-appen
 pub first-front : (n : ℕ) (x y : List ℕ) → n ≤ length x → firstOrZeros n (x ++ y) ≡ firstOrZeros n x
 unfolding firstOrZeros
 first-front n x y h = rw append-assoc (take-append-le n x (y ++ zeros n) h ∙ sym (take-append-le n x (zeros n) h))
+
+-- zeros at the end do not count
+pub first-trailing : (n m : ℕ) (x : List ℕ) → firstOrZeros n (x ++ zeros m) ≡ firstOrZeros n x
+unfolding firstOrZeros
+first-trailing n m x =
+    let e : m + n ≡ n + m = omega arith in
+    let l : (x ++ zeros m) ++ zeros n ≡ (x ++ zeros n) ++ zeros m =
+    append-assoc x (zeros m) (zeros n) ∙ ap (λ (z : List ℕ). x ++ z) (zeros-zeros m n ∙ ap zeros e ∙ sym (zeros-zeros n m)) ∙ sym (append-assoc x (zeros n) (zeros m)) in
+    ap (take n) l ∙ take-append-le n (x ++ zeros n) (zeros m) (omega (arith, length-append x (zeros n), length-zeros n))
+
+-- the first m bytes, and the n behind them
+first-add : (m n : ℕ) (x : List ℕ) → firstOrZeros (m + n) x ≡ firstOrZeros m x ++ firstOrZeros n (drop m (x ++ zeros m))
+unfolding firstOrZeros
+first-add m n x =
+    let long : m ≤ length (x ++ zeros m) = omega (arith, length-append x (zeros m), length-zeros m) in
+    let l : x ++ zeros (m + n) ≡ (x ++ zeros m) ++ zeros n = ap (λ (z : List ℕ). x ++ z) (sym (zeros-zeros m n)) ∙ sym (append-assoc x (zeros m) (zeros n)) in
+    ap (take (m + n)) l ∙ take-add m n ((x ++ zeros m) ++ zeros n) ∙ rw (take-append-le m (x ++ zeros m) (zeros n) long, drop-append-le m (x ++ zeros m) (zeros n) long)
+
+pub first-cut : (m n : ℕ) (x : List ℕ) → firstOrZeros m x ++ firstOrZeros n (drop m x) ≡ firstOrZeros (m + n) x
+first-cut m n x = sym (first-add m n x ∙ ap (λ (l : List ℕ). firstOrZeros m x ++ l) (rest (ltb m (length x)) refl))
+  where
+    rest : (t : Bool) → ltb m (length x) ≡ t → firstOrZeros n (drop m (x ++ zeros m)) ≡ firstOrZeros n (drop m x)
+    rest true e = ap (firstOrZeros n) (drop-append-le m x (zeros m) (omega (arith, ltb-true m (length x) e))) ∙ first-trailing n m (drop m x)
+    rest false e =
+        let k : m ≡ length x + (m - length x) = omega (arith, ltb-false m (length x) e) in
+        let d : drop m (x ++ zeros m) ≡ zeros (m - (m - length x)) =
+        ap (λ (j : ℕ). drop j (x ++ zeros m)) k ∙ drop-append-add x (zeros m) (m - length x) ∙ drop-zeros (m - length x) m in
+        let o : drop m x ≡ [] = drop-of-length-le x {i = m} (ltb-false m (length x) e) in
+        rw (d, o) (first-trailing n (m - (m - length x)) [])
 
 -- ---- bytes that are written into a run of bytes
 -- behind x
