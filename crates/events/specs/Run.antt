@@ -1,5 +1,6 @@
 -- Sequences of events from power-up.
-use mathlib.Core.List.{List, [], _∷_}
+use Prim.Native.Nat.{ℕ}
+use mathlib.Core.List.{List, [], _∷_, _++_}
 use Rattle.device.specs.Device as device
 use Rattle.device.specs.declared.Device.{Device}
 use Rattle.events.specs.Event.{Event, happens, Given, gives}
@@ -28,3 +29,8 @@ onward d (e ∷ es) = onward (next d e) es
 abbrev pub allGiven : Device → List Event → List Given
 allGiven d [] = []
 allGiven d (e ∷ es) = gives d e ∷ allGiven (next d e) es
+
+-- the bytes that several events give, one after the other
+abbrev pub bytesJoined : List Given → List ℕ
+bytesJoined [] = []
+bytesJoined (g ∷ gs) = g .bytes ++ bytesJoined gs

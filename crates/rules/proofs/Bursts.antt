@@ -20,10 +20,10 @@ use Rattle.registers.proofs.Answers.{zero-accepted}
 use Rattle.device.specs.Read.{singleByte, afterSingle, afterSingles, singleBytes, readOf}
 use Rattle.device.specs.declared.Device.{Device}
 use Rattle.events.specs.Event.{Event, powerUp, write, read, sample, cycle, clock, bytesAt, gives, bytes}
-use Rattle.events.specs.Run.{next, after, scriptOnto, onward, allGiven}
+use Rattle.events.specs.Run.{next, after, scriptOnto, onward, allGiven, bytesJoined}
 use Rattle.events.specs.Parts.{readsBelow}
 use Rattle.events.proofs.Runs.{onward-after}
-use Rattle.rules.specs.Bursts.{isBurst, singles, bytesJoined, opened}
+use Rattle.rules.specs.Bursts.{isBurst, singles, opened}
 
 -- ---- which reads are bursts below 0x3F
 pub burst-is : (a n : ℕ) → readsBelow a n ≡ isBurst a n

@@ -29,11 +29,11 @@ use Rattle.device.specs.Show.{insideOf, statusesIn, shownByte}
 use Rattle.device.specs.Read.{byteFrom, singleByte}
 use Rattle.device.specs.declared.Device.{Device}
 use Rattle.events.specs.Event.{Event, read, Given, gives, bytes}
-use Rattle.events.specs.Run.{after, allGiven}
+use Rattle.events.specs.Run.{after, allGiven, bytesJoined}
 use Rattle.events.specs.Bank.{stored}
 use Rattle.events.proofs.Runs.{bank-is}
 use Rattle.rules.specs.Stored.{ByteWrites}
-use Rattle.rules.specs.Bursts.{isBurst, singles, bytesJoined}
+use Rattle.rules.specs.Bursts.{isBurst, singles}
 use Rattle.rules.specs.Data.{lastSample}
 use Rattle.rules.specs.Rules.{Elsewhere, dataStatus, fullStatus, watermarkStatus, ruled, ruledFrom}
 use Rattle.rules.proofs.Proper.{deep, proper}
