@@ -3,6 +3,15 @@
    logs SEED RECORDS    one log of at most RECORDS records, biased to the edges of the rules; about
                         one seed in four gives a damaged log, one in 12 a log without a readout,
                         one in 32 a very short one
+   logs SEED RECORDS polls MARKS
+   logs SEED RECORDS cuts MARKS
+                        the same log with polls put in, which are reads below 0x3F, or with its
+                        accepted reads cut, those at 0x3F at whole frames. The file MARKS has a line
+                        for each of its records: same, which stands for the next one of the log;
+                        data, the same of a read that begins below 0x08, whose bytes a poll before
+                        it may change; poll, which was put in; piece, which begins or goes on with
+                        the read that the next record goes on with; or rest: from there on the log
+                        is as it was
    logs --big MEGABYTES one long log without damage, with a mix as on a bench, for timing
 
    Random draws never share an expression with each other: C leaves their order open there. */
@@ -28,6 +37,16 @@ enum damage {
     DAMAGES
 };
 
+enum form { PLAIN, POLLED, CUT_UP };
+
+/* What becomes of a log's records besides; its own draws stay the same. */
+struct form_of {
+    enum form form;
+    FILE *marks;
+    uint64_t state; /* of the draws for polls and cuts */
+    int frame;      /* bytes of a frame, by the records so far */
+};
+
 struct log {
     uint64_t state;     /* of the generator */
     uint64_t left;      /* records that may still be written */
@@ -36,6 +55,7 @@ struct log {
     bool no_readouts;   /* 0x02 to 0x07 are read instead */
     bool ended;         /* nothing more is written */
     uint64_t bytes;     /* written so far */
+    struct form_of other;
 };
 
 /* ---- draws ---- */
@@ -173,15 +193,101 @@ static void put_damaged(struct log *l, const uint8_t *body, int length)
     }
 }
 
+/* ---- the same log with polls, or with its reads cut ---- */
+
+static void mark(struct log *l, const char *word)
+{
+    if (l->other.form != PLAIN)
+        fprintf(l->other.marks, "%s\n", word);
+}
+
+/* From here on the log is as it was. */
+static void end_form(struct log *l)
+{
+    mark(l, "rest");
+    l->other.form = PLAIN;
+}
+
+static void put_read_as(struct log *l, const char *word, int address, int count)
+{
+    mark(l, word);
+    put_sound(l, (uint8_t[]){2, (uint8_t)address, (uint8_t)count}, 3);
+}
+
+/* Reads below 0x3F: data, statuses or anything, of one byte, of some or of a refused number. */
+static void put_polls(struct log *l, struct log *draws)
+{
+    while (one_in(draws, 3)) {
+        int address = PICK(draws, 0x02, 0x03, 0x04, 0x05, 0x06, 0x07, 0x09, 0x0A, 0x0B, 0x0E);
+        int anywhere = below(draws, 0x3F);
+        int count = one_in(draws, 2) ? 1 : PICK(draws, 0, 2, 3, 6, 13, 62, 63, 192, 193, 255);
+
+        if (one_in(draws, 4))
+            address = anywhere;
+        put_read_as(l, "poll", address, count);
+    }
+}
+
+/* An accepted read in pieces, most of the time: at 0x3F of whole frames, and what is left last. */
+static void put_pieces(struct log *l, struct log *draws, int address, int count)
+{
+    int step = address == 0x3F ? l->other.frame : 1;
+
+    while (count > step && !one_in(draws, 3)) {
+        int piece = step * (1 + below(draws, (count - 1) / step));
+
+        put_read_as(l, "piece", address, piece);
+        address = address == 0x3F ? 0x3F : address + piece;
+        count -= piece;
+    }
+    put_read_as(l, "same", address, count);
+}
+
+static bool is_accepted_read(const uint8_t *body)
+{
+    int end = body[1] == 0x3F ? 0x3F : body[1] + body[2];
+
+    return body[0] == 2 && body[2] >= 1 && body[2] <= 192 && body[1] <= 0x3F && end <= 0x3F;
+}
+
+/* What an accepted write says of the frames that come. */
+static void note_frame(struct log *l, const uint8_t *body)
+{
+    if (body[0] == 1 && body[1] == 0x3E && body[2] >> 6 != 3)
+        l->other.frame = (body[2] & 3) == 0 ? 6 : 2;
+    if (body[0] == 1 && body[1] == 0x14 && body[2] == 0xB6)
+        l->other.frame = 6;
+}
+
+static void put_formed(struct log *l, const uint8_t *body, int length)
+{
+    struct log draws = {.state = l->other.state};
+
+    if (l->other.form == POLLED)
+        put_polls(l, &draws);
+    if (l->other.form == CUT_UP && is_accepted_read(body)) {
+        put_pieces(l, &draws, body[1], body[2]);
+    } else {
+        mark(l, body[0] == 2 && body[1] < 0x08 && l->other.form == POLLED ? "data" : "same");
+        put_sound(l, body, length);
+    }
+    note_frame(l, body);
+    l->other.state = draws.state;
+}
+
 static void put_record(struct log *l, const uint8_t *body, int length)
 {
     if (l->left == 0)
         return;
     l->left--;
-    if (l->undamaged-- == 0)
+    if (l->undamaged-- == 0) {
+        end_form(l);
         put_damaged(l, body, length);
-    else
+    } else if (l->other.form != PLAIN) {
+        put_formed(l, body, length);
+    } else {
         put_sound(l, body, length);
+    }
 }
 
 static void put_write(struct log *l, int address, int byte)
@@ -1213,6 +1319,8 @@ static void put_head(struct log *l)
 {
     int version = PICK(l, 0, 2, 3, 0x81, 0xFF);
 
+    if (l->damage == EMPTY || l->damage == ONLY_GARBAGE || l->damage == VERSION)
+        end_form(l);
     switch (l->damage) {
     case EMPTY:
         l->ended = true;
@@ -1231,7 +1339,7 @@ static void put_head(struct log *l)
     }
 }
 
-static void edge_log(uint64_t seed, uint64_t records)
+static void edge_log(uint64_t seed, uint64_t records, enum form form, FILE *marks)
 {
     struct log l = {.state = seed, .undamaged = UINT64_MAX};
     int fill = PICK(&l, 0, 1, 2, 2, 3, 4, 31, 32, 33);
@@ -1249,6 +1357,7 @@ static void edge_log(uint64_t seed, uint64_t records)
         l.undamaged = records > 0 ? draw(&l) % records : 0;
     }
     l.no_readouts = one_in(&l, 12);
+    l.other = (struct form_of){.form = form, .marks = marks, .state = ~seed, .frame = 6};
     put_head(&l);
     l.left = records - last;
     while (l.left > 0 && !l.ended)
@@ -1325,21 +1434,37 @@ static bool parse_number(const char *text, uint64_t *number)
     return end != text && *end == '\0';
 }
 
+static int usage(void)
+{
+    fputs("usage: logs SEED RECORDS [polls MARKS | cuts MARKS] | logs --big MEGABYTES\n", stderr);
+    return 2;
+}
+
 int main(int count, char **argument)
 {
     static char block[1 << 16];
     uint64_t seed = 0, size = 0;
     bool big = count == 3 && strcmp(argument[1], "--big") == 0;
+    enum form form = PLAIN;
+    FILE *marks = NULL;
 
-    if (count != 3 || !(big || parse_number(argument[1], &seed)) ||
-        !parse_number(argument[2], &size)) {
-        fputs("usage: logs SEED RECORDS | logs --big MEGABYTES\n", stderr);
-        return 2;
+    if (count == 5)
+        form = strcmp(argument[3], "polls") == 0  ? POLLED
+               : strcmp(argument[3], "cuts") == 0 ? CUT_UP
+                                                  : PLAIN;
+    if (!(count == 3 || (count == 5 && form != PLAIN)) ||
+        !(big || parse_number(argument[1], &seed)) || !parse_number(argument[2], &size))
+        return usage();
+    if (form != PLAIN && (marks = fopen(argument[4], "w")) == NULL) {
+        perror(argument[4]);
+        return 1;
     }
     setvbuf(stdout, block, _IOFBF, sizeof block);
     if (big)
         big_log(size);
     else
-        edge_log(seed, size);
+        edge_log(seed, size, form, marks);
+    if (marks != NULL && fclose(marks) != 0)
+        return 1;
     return fflush(stdout) != 0 || ferror(stdout) ? 1 : 0;
 }
