@@ -126,7 +126,8 @@ static inline uint8_t twin_write(struct twin *twin, uint8_t address, uint8_t byt
     return twin_event(twin, TWIN_WRITE, address, byte, 0, 0, 0, NULL, 0, 0);
 }
 
-/* A burst read: length bytes from address on into buffer; at 0x3F, the FIFO's frames. */
+/* A burst read: length bytes from address on into buffer; at 0x3F, the FIFO's frames. A read below 0x3F changes nothing that another caller of
+ * the same record sees but 0x02 to 0x07: new-data bits and locks. */
 static inline uint8_t twin_read(struct twin *twin, uint8_t address, uint8_t *buffer, size_t length) {
     return twin_event(twin, TWIN_READ, address, 0, 0, 0, 0, buffer, length, 0);
 }
