@@ -1,1 +1,2 @@
 pub mod Alarm
+pub mod Course

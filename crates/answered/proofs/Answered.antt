@@ -27,8 +27,8 @@ use Rattle.spelling.proofs.Spelling.{stretch-spelt, in-force-spelt}
 use Rattle.events.specs.Bank.{stored}
 use Rattle.events.specs.Event.{Event, powerUp, write, read, sample, cycle, clock}
 use Rattle.entries.specs.Entries.{eventOf}
-use Rattle.rules.specs.Stored.{ByteWrites}
-use Rattle.rules.proofs.Stored.{stored-is}
+use Rattle.paper.specs.Stored.{ByteWrites}
+use Rattle.paper.proofs.Stored.{stored-is}
 use Rattle.stretches.specs.Histories.{accountOf, Stretch, Between, Each}
 use Rattle.stretches.proofs.Ranges.{range-known}
 use Rattle.told.specs.Histories.{eventsAs, eventsOnto}

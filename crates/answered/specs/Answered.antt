@@ -7,7 +7,7 @@ use mathlib.Core.Path.{_≡_}
 use lib.ListN.{length}
 use Rattle.text.specs.Text.{ascii, decimal}
 use Rattle.events.specs.Event.{Event}
-use Rattle.rules.specs.Stored.{byteBy}
+use Rattle.paper.specs.Stored.{byteBy}
 use Rattle.counts.specs.Counts.{sum}
 use Rattle.counts.specs.declared.Doubt.{Doubt}
 use Rattle.wording.specs.Wording.{rangeLine}

@@ -7,7 +7,7 @@ use mathlib.Core.Path.{_≡_, refl, sym, ap, _∙_}
 use native.Mathlib.Omega.{arith}
 use lib.Bits.{bitAnd, and-mask, and-zero-r, or-zero-r}
 use lib.Seq.{set-getD}
-use Rattle.table.specs.Rows.{rowAt, rowOf, paperLineOf, listed, refusedBits, reservedAddresses, merged, writable}
+use Rattle.table.specs.Rows.{rowAt, merged, writable, theTable}
 use Rattle.motion.specs.Detector.{restarted, clocked}
 use Rattle.motion.specs.declared.Motion.{Motion}
 use Rattle.motion.proofs.Clock.{clocked-reached}
@@ -29,22 +29,22 @@ use Rattle.anymotion.proofs.Detector.{motionAfter, detector-is, expiry-
 -- ---- the write
 -- Q-4, "14 is gone": 0x21 takes every byte
 latch-accepted : (regs : List ℕ) (byte : ℕ) → accepted (writeAnswer regs 0x21 byte) ≡ true
-unfolding answerAt reservedCode notModelled rowAt rowOf paperLineOf listed refusedBits
+unfolding answerAt reservedCode notModelled theTable
 latch-accepted regs byte = rw (and-zero-r byte)
 
 latch-writable : writable 0x21 ≡ true
-unfolding rowAt rowOf paperLineOf listed
+unfolding theTable
 latch-writable = refl
 
 -- and what it holds stays as it is when it is written again
 merged-again : (byte : ℕ) → merged (rowAt 0x21) (merged (rowAt 0x21) byte) ≡ merged (rowAt 0x21) byte
-unfolding rowAt rowOf paperLineOf listed refusedBits reservedAddresses
+unfolding theTable
 merged-again byte =
     let e : byte % 16 % 16 ≡ byte % 16 = omega arith in
     rw (or-zero-r (bitAnd byte 0x0F), and-mask byte 4, or-zero-r (bitAnd (byte % 16) 0x0F), and-mask (byte % 16) 4, e)
 
 latch-again : (es : List Event) → merged (rowAt 0x21) (stored es 0x21) ≡ stored es 0x21
-unfolding rowAt rowOf paperLineOf listed refusedBits reservedAddresses
+unfolding theTable
 latch-again es =
     let w = proper es .written 0x21 (omega arith) refl in
     let is : stored es 0x21 ≡ merged (rowAt 0x21) (w .byte) = sym (registers es 0x21) ∙ w .is in

@@ -4,32 +4,8 @@ use Prim.Native.Nat.{ℕ}
 use mathlib.Core.Path.{_≡_, refl}
 use mathlib.Core.List.{List, [], _∷_, _++_, map}
 use lib.IntN.{pos}
-use Rattle.laws.specs.Bits.{bit}
-use Rattle.laws.specs.Bytes.{zeros, firstOrZeros, movedForward}
-use Rattle.codes.specs.Range.{rangeOf}
-use Rattle.codes.specs.Latch.{latchOf}
-use Rattle.codes.specs.Mode.{modeOf}
-use Rattle.codes.specs.Axes.{axesOf}
-use Rattle.table.specs.Rows.{listed, reservedAddresses, paperLineOf, refusedBits, rowOf, rowAt, resetBytes}
-use Rattle.registers.specs.Refused.{reservedCode, notModelled, answerAt, readAnswer}
-use Rattle.registers.specs.Deeds.{deedsOf, judgement}
-use Rattle.fifo.specs.Flat.{flatPushed, flatRead, bytesRead}
-use Rattle.fifo.specs.Store.{pushedIn, readIn, bytesIn, countIn, noFrames}
-use Rattle.channels.specs.Codes.{code}
-use Rattle.channels.specs.Channels.{byteAt, afterRead}
-use Rattle.slopes.specs.Previous.{slopesTo}
-use Rattle.slopes.specs.Point.{firstOver, pointOf}
-use Rattle.slopes.specs.Runs.{overRun, calmRun}
-use Rattle.motion.specs.Detector.{afterOver, afterCalm, afterSample, restarted}
-use Rattle.detectors.specs.Detectors.{detectorsSampled, detectorsWritten}
-use Rattle.interrupts.specs.Statuses.{statusesOf}
-use Rattle.interrupts.specs.Maps.{statusByte}
 use Rattle.device.specs.Device as device
-use Rattle.device.specs.Device.{firstBytes}
-use Rattle.device.specs.Show.{shownByte}
-use Rattle.device.specs.Read.{byteFrom, afterSingles, singleBytes, readOf}
-use Rattle.device.specs.Write.{written, writeOf}
-use Rattle.device.specs.Sample.{sampleAnswer, afterAccepted, sampleOf}
+use Rattle.device.specs.Computed.{theDevice}
 use Rattle.events.specs.Event.{Event, write, read, sample, Given}
 use Rattle.events.specs.Run.{allGiven}
 
@@ -54,5 +30,5 @@ in-a-row :
     ∷ (0 ∷ 0 ∷ 0 ∷ 4 ∷ 4 ∷ 4 ∷ 4 ∷ 0 ∷ 0 ∷ [])
     ∷ (0 ∷ 0 ∷ 0 ∷ 0 ∷ 4 ∷ 4 ∷ 4 ∷ 4 ∷ 0 ∷ [])
     ∷ []
-unfolding bit zeros firstOrZeros movedForward rangeOf latchOf modeOf axesOf listed reservedAddresses paperLineOf refusedBits rowOf rowAt resetBytes reservedCode notModelled answerAt readAnswer deedsOf judgement flatPushed flatRead bytesRead pushedIn readIn bytesIn countIn noFrames code byteAt afterRead slopesTo firstOver pointOf overRun calmRun afterOver afterCalm afterSample restarted detectorsSampled detectorsWritten statusesOf statusByte device.powerUp firstBytes shownByte byteFrom afterSingles singleBytes readOf written writeOf sampleAnswer afterAccepted sampleOf
+unfolding theDevice
 in-a-row = refl

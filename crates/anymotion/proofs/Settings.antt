@@ -19,7 +19,7 @@ use Rattle.channels.specs.Codes.{inRange}
 use Rattle.slopes.specs.Point.{noAxis}
 use Rattle.table.specs.Rows.{rowAt, merged}
 use Rattle.registers.specs.Answers.{accepted}
-use Rattle.registers.specs.Deeds.{restarting, isReset, deedsOf, noDeeds, judgement}
+use Rattle.registers.specs.Deeds.{motionRestarting, isReset, deedsOf, noDeeds, judgement}
 use Rattle.registers.specs.declared.Answer.the-variants.{Done, OutOfRange}
 use Rattle.registers.specs.declared.Deeds.{Deeds}
 use Rattle.device.specs.Device.{firstBytes}
@@ -27,8 +27,7 @@ use Rattle.device.specs.Sample.{sampleAnswer}
 use Rattle.events.specs.Event.{Event, powerUp, write, read, sample, cycle, clock}
 use Rattle.events.specs.Bank.{bank}
 use Rattle.events.proofs.Runs.{bank-length}
-use Rattle.rules.specs.Proper.{isStored, spared}
-use Rattle.rules.proofs.Writes.{byte-written}
+use Rattle.paper.proofs.Writes.{isStored, spared, byte-written}
 use Rattle.anymotion.specs.InForce.{inForce, isAccepted, meansNonLatched, meansLatched, timeOfCode, meansTime, isNonLatched, isLatched, timeAsked, clearing, restarts, forgetting, fits}
 use Rattle.anymotion.specs.Points.{anyEnabled}
 
@@ -120,9 +119,9 @@ module _ (es : List Event) (a byte : ℕ) where
   both-is true s = refl
   both-is false s = refl
 
-  pub restarts-is : judgement (bank es) a byte .deeds .restarts ≡ both (isAccepted es a byte) (isIn clearing a)
+  pub restarts-is : judgement (bank es) a byte .deeds .restarts .motion ≡ both (isAccepted es a byte) (isIn clearing a)
   unfolding deedsOf
-  restarts-is = of-deeds (λ d. d .restarts) ∙ both-is (isAccepted es a byte) (isIn restarting a)
+  restarts-is = of-deeds (λ d. d .restarts .motion) ∙ both-is (isAccepted es a byte) (isIn motionRestarting a)
 
   pub forgets-is : judgement (bank es) a byte .deeds .forgets ≡ both (isAccepted es a byte) (isIn forgetting a)
   unfolding deedsOf

@@ -16,7 +16,7 @@ use Rattle.events.specs.Event.{Event, powerUp, read, happens, lentBy, gives, Gi
 use Rattle.events.specs.Run.{after}
 use Rattle.events.proofs.Given.{read-gives}
 use Rattle.history.proofs.Conserve.{demand3}
-use Rattle.rules.specs.Stored.{ByteWrites}
+use Rattle.paper.specs.Stored.{ByteWrites}
 use Rattle.outcomes.proofs.Refusals.{read-unchanged}
 use Rattle.demand2.proofs.Demand2.{demand2, readout}
 use Rattle.demand2.proofs.Watermark.{watermark}

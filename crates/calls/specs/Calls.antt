@@ -22,11 +22,11 @@ use Rattle.device.specs.declared.Device.{Device}
 use Rattle.events.specs.Event.{Event, powerUp, write, read, sample, cycle, clock, gives}
 use Rattle.events.specs.Run.{after}
 use Rattle.events.specs.Views.{atRead}
-use Rattle.history.specs.Demand.{fates}
+use Rattle.demand3.specs.Demand.{fates}
 use Rattle.history.specs.History.{accelerometer, twin, Demand3Here}
 use Rattle.rules.specs.Bursts.{isBurst}
 use Rattle.rules.specs.Rules.{ruledFrom}
-use Rattle.rules.specs.Stored.{ByteWrites}
+use Rattle.paper.specs.Stored.{ByteWrites}
 use Rattle.outcomes.specs.Demand1.{Due, Tabled}
 use Rattle.demand2.specs.Demand2.{Demand2, elsewhere}
 use Rattle.demand2.specs.Watermark.{Watermark}

@@ -10,9 +10,9 @@ use Rattle.laws.proofs.Finite.{agree-at}
 use Rattle.codes.specs.Mode.{modeOf, isReservedMode}
 use Rattle.registers.specs.Deeds.{isReset, clears}
 use Rattle.registers.proofs.Verdicts.{control-accepted}
-use Rattle.rules.specs.Paper.{accepts}
-use Rattle.rules.specs.Stored.{isSoftReset}
-use Rattle.rules.proofs.Paper.{accepts-is}
+use Rattle.paper.specs.Table.{accepts}
+use Rattle.paper.specs.Stored.{isSoftReset}
+use Rattle.paper.proofs.Table.{accepts-is}
 
 module _ (a byte : ℕ) where
   -- "14: 0xB6 is a soft reset"

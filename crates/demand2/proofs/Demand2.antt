@@ -18,13 +18,13 @@ use Rattle.device.specs.Read.{readOf, burstBytes, bufferAfter}
 use Rattle.device.specs.Show.{pinsOf}
 use Rattle.events.specs.Event.{Event, read, bytes, gives}
 use Rattle.events.specs.Run.{after}
-use Rattle.history.specs.Chip.{readOut}
-use Rattle.history.specs.Demand.{fates}
+use Rattle.demand3.specs.Chip.{readOut}
+use Rattle.demand3.specs.Demand.{fates}
 use Rattle.history.specs.History.{accelerometer, readsOut, saysHere, twin}
 use Rattle.history.proofs.Conserve.{demand3, device-holds}
 use Rattle.anymotion.proofs.Detector.{detector-is}
 use Rattle.rules.specs.Rules.{Elsewhere, ruled, toInt1, toInt2, someMapped, Leveled}
-use Rattle.rules.specs.Stored.{ByteWrites}
+use Rattle.paper.specs.Stored.{ByteWrites}
 use Rattle.rules.proofs.Reading.{elsewhereIn, reads}
 use Rattle.rules.proofs.Pins.{pins}
 use Rattle.demand2.specs.Demand2.{elsewhere, Demand2}

@@ -21,21 +21,21 @@ use Rattle.registers.specs.Answers.{accepted}
 use Rattle.registers.specs.Deeds.{clears}
 use Rattle.device.specs.Sample.{sampleAnswer}
 use Rattle.events.specs.Event.{Event, powerUp, write, read, sample, cycle, clock, Given}
-use Rattle.history.specs.Chip.{Said, sampled, readOut, nothing, onto, since}
-use Rattle.history.specs.Counts.{begun, heldAfter}
+use Rattle.demand3.specs.Chip.{Said, sampled, readOut, nothing, onto, since}
+use Rattle.demand3.specs.Counts.{begun, heldAfter}
 use Rattle.history.specs.History.{accelerometer, readsOut, control, setting, frame, saysHere}
-use Rattle.history.proofs.Chip.{isCleared}
+use Rattle.demand3.proofs.Chip.{isCleared}
 use Rattle.history.proofs.Conserve.{demand3, lawful, over-clears-here}
 use Rattle.history.proofs.Holds.{holds-after}
-use Rattle.history.proofs.Whole.{next-held}
+use Rattle.demand3.proofs.Whole.{next-held}
 use Rattle.rules.specs.Data.{isSample}
 use Rattle.rules.specs.Rules.{depthBy, dataStatus, fullStatus, watermarkStatus, ruled}
-use Rattle.rules.specs.Stored.{ByteWrites, byteBy}
+use Rattle.paper.specs.Stored.{ByteWrites, byteBy}
 use Rattle.rules.proofs.Channels.{sample-is}
 use Rattle.rules.proofs.Pins.{data-apart}
 use Rattle.rules.proofs.Reading.{depth-is, in-order}
 use Rattle.rules.proofs.Registers.{registers}
-use Rattle.rules.proofs.Stored.{stored-is}
+use Rattle.paper.proofs.Stored.{stored-is}
 use Rattle.demand2.specs.Demand2.{elsewhere}
 use Rattle.demand2.specs.Watermark.{watermarkBit, level, frameCount, frameSize, Reaches, setUpAt, goesOn, goOn, arrived, framesAskedBy, framesAsked, Watermark}
 use Rattle.demand2.proofs.Demand2.{demand2, out}

@@ -14,7 +14,7 @@ use Rattle.fifo.specs.Ledger.{heldOf, lostOf}
 use Rattle.device.specs.Show.{pinsOf}
 use Rattle.events.specs.Event.{Event, read, bytes, gives}
 use Rattle.events.specs.Run.{after}
-use Rattle.history.specs.Demand.{fates}
+use Rattle.demand3.specs.Demand.{fates}
 use Rattle.history.specs.History.{accelerometer}
 use Rattle.anymotion.specs.Status.{isSet}
 use Rattle.anymotion.specs.Marks.{markOf, signOf, markedAxes}

@@ -14,12 +14,12 @@ use Rattle.fifo.specs.Ledger.{heldOf}
 use Rattle.events.specs.Event.{Event, read, gives}
 use Rattle.events.specs.Run.{after}
 use Rattle.events.specs.Views.{isPowerUp, atWrite, atRead}
-use Rattle.history.specs.Counts.{begun}
-use Rattle.history.specs.Demand.{fates}
+use Rattle.demand3.specs.Counts.{begun}
+use Rattle.demand3.specs.Demand.{fates}
 use Rattle.history.specs.History.{accelerometer, readsOut, setting}
 use Rattle.rules.specs.Data.{isSample}
 use Rattle.rules.specs.Rules.{depthBy}
-use Rattle.rules.specs.Stored.{ByteWrites, byteBy}
+use Rattle.paper.specs.Stored.{ByteWrites, byteBy}
 
 -- ---- after a history
 -- what a recorder sees: bit 6 of the byte that a read of 0x0A gives

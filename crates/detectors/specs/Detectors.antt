@@ -45,7 +45,7 @@ detectorsWritten e d =
     pick (e .resets) allQuiet
     (record {
       previous = pick (e .forgets) (forgotten (d .previous)) (d .previous);
-      motion = pick (e .restarts) (restarted (d .motion)) (d .motion);
+      motion = pick (e .restarts .motion) (restarted (d .motion)) (d .motion);
     })
 
 -- the status of any-motion, and the byte of 0x0B

@@ -97,7 +97,7 @@ impl Detectors {
         if deeds.forgets {
             self.previous = previous.forget();
         }
-        if deeds.restarts {
+        if deeds.restarts.motion {
             self.motion = motion.restart();
         }
         self

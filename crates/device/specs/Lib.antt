@@ -5,3 +5,4 @@ pub mod Show
 pub mod Read
 pub mod Sample
 pub mod Clock
+pub mod Computed

@@ -39,13 +39,13 @@ use Rattle.device.specs.Show.{shownByte}
 use Rattle.device.specs.declared.Device.{Device}
 use Rattle.events.specs.Event.{Event, powerUp, write, read, sample, cycle, clock}
 use Rattle.events.specs.Run.{after}
-use Rattle.history.specs.Chip.{Said, cleared, sampled, readOut, nothing, since}
-use Rattle.history.specs.Demand.{fates}
+use Rattle.demand3.specs.Chip.{Said, cleared, sampled, readOut, nothing, since}
+use Rattle.demand3.specs.Demand.{fates}
 use Rattle.history.specs.History.{readsOut, control, setting, frame, saysHere, accelerometer, twin, LostIn, Demand3Here}
-use Rattle.history.specs.Lost.{LostBy}
-use Rattle.history.specs.Whole.{OverClears}
-use Rattle.history.proofs.Chip.{isCleared, Lawful, Follows, conserves}
-use Rattle.history.proofs.Whole.{over-clears}
+use Rattle.demand3.specs.Lost.{LostBy}
+use Rattle.demand3.specs.Whole.{OverClears}
+use Rattle.demand3.proofs.Chip.{isCleared, Lawful, Follows, conserves}
+use Rattle.demand3.proofs.Whole.{over-clears}
 use Rattle.history.proofs.Holds.{Holds, frame-long, queueAt, holds-after, deep}
 
 -- ---- a device that holds a queue

@@ -38,7 +38,7 @@ use Rattle.device.specs.declared.Device.{Device}
 use Rattle.device.proofs.Laws.{after-is}
 use Rattle.events.specs.Event.{Event, powerUp, write, read, sample, cycle, clock}
 use Rattle.events.specs.Run.{after}
-use Rattle.history.specs.Chip.{since}
+use Rattle.demand3.specs.Chip.{since}
 use Rattle.history.specs.History.{readsOut, controlBy, control, frame, saysHere, accelerometer}
 use Rattle.history.proofs.Writes.{Banked, banked-first, banked-written, clears-mode}
 

@@ -1,13 +1,6 @@
-pub mod Counts
-pub mod Fates
-pub mod Taken
-pub mod Lost
-pub mod Chip
-pub mod Whole
 pub mod Writes
 pub mod Holds
 pub mod Conserve
 pub mod Runs
 pub mod Wrong
-pub mod Second
 pub mod Said

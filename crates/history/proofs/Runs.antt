@@ -4,28 +4,15 @@ use Prim.Native.Nat.{ℕ, zero, suc}
 use mathlib.Core.List.{List, [], _∷_}
 use mathlib.Core.Path.{_≡_, refl}
 use lib.IntN.{pos}
-use Rattle.laws.specs.Bytes.{zeros, firstOrZeros, movedForward}
-use Rattle.codes.specs.Axes.{axesOf}
-use Rattle.codes.specs.Mode.{modeOf}
-use Rattle.fifo.specs.Flat.{flatPushed, flatRead, bytesRead}
 use Rattle.fifo.specs.Ledger.{lostOf}
-use Rattle.fifo.specs.Store.{noFrames, pushedIn, readIn, bytesIn, countIn}
-use Rattle.channels.specs.Codes.{code}
-use Rattle.registers.specs.Deeds.{judgement, deedsOf, clears}
-use Rattle.registers.specs.Refused.{answerAt, readAnswer, reservedCode, notModelled}
-use Rattle.table.specs.Rows.{rowAt, rowOf, paperLineOf, listed, refusedBits, resetBytes}
-use Rattle.device.specs.Device.{powerUp, firstBytes}
-use Rattle.device.specs.Read.{readOf, bufferAfter, singleBytes, afterSingles, byteFrom}
-use Rattle.device.specs.Sample.{sampleAnswer, sampleOf, afterAccepted}
-use Rattle.device.specs.Show.{shownByte}
-use Rattle.device.specs.Write.{writeOf, written}
+use Rattle.device.specs.Computed.{theDevice}
 use Rattle.events.specs.Event.{Event, write, read, sample}
 use Rattle.events.specs.Run.{after}
-use Rattle.history.specs.Chip.{since}
-use Rattle.history.specs.Counts.{begun, heldAfter}
-use Rattle.history.specs.Demand.{fates, dueStatus, gave}
+use Rattle.demand3.specs.Chip.{since}
+use Rattle.demand3.specs.Counts.{begun, heldAfter}
+use Rattle.demand3.specs.Demand.{fates, dueStatus, gave}
 use Rattle.history.specs.History.{readsOut, control, frame, saysHere, accelerometer, twin}
-use Rattle.history.specs.Whole.{Totals, totals}
+use Rattle.demand3.specs.Whole.{Totals, totals}
 
 -- n samples after es, numbered by x from 0
 pub samples : ℕ → List Event → List Event
@@ -69,7 +56,7 @@ pub runs : Ran fifoRun 0x9F (lastFrame ∷ []) (firstFrame ∷ []) (counts 33 1 
     × Ran bypassRun 0x81 (firstFrame ∷ []) [] (counts 2 0 1 0)
     × Ran (write 0x3E 0xC0 ∷ bypassRun) 0x81 (firstFrame ∷ []) [] (counts 2 0 1 0)
     × Ran (write 0x14 0xB6 ∷ bypassRun) 0x00 [] [] (counts 2 0 1 1)
-unfolding samples dueStatus fates gave totals begun heldAfter twin since saysHere control clears readsOut frame after powerUp firstBytes resetBytes noFrames zeros writeOf written judgement deedsOf sampleOf afterAccepted pushedIn flatPushed movedForward readOf bufferAfter readIn flatRead bytesIn bytesRead firstOrZeros singleBytes afterSingles byteFrom shownByte countIn code modeOf axesOf sampleAnswer readAnswer answerAt reservedCode notModelled rowAt rowOf paperLineOf listed refusedBits
+unfolding theDevice samples dueStatus fates gave totals begun heldAfter twin since saysHere control readsOut frame after
 runs = (
   record { told = refl; lost = refl; shown = refl; came = refl; tallied = refl },
   record { told = refl; lost = refl; shown = refl; came = refl; tallied = refl },

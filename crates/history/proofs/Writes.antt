@@ -14,7 +14,7 @@ use Rattle.laws.specs.Choice.{pick, both, either}
 use Rattle.laws.proofs.Finite.{left, right}
 use Rattle.codes.specs.Addresses.{resetAt, controlAt}
 use Rattle.codes.specs.Mode.{modeOf, isReservedMode}
-use Rattle.table.specs.Rows.{rowAt, rowOf, paperLineOf, listed, refusedBits, merged, writable, resetBytes}
+use Rattle.table.specs.Rows.{rowAt, merged, writable, theTable}
 use Rattle.registers.specs.Answers.{accepted}
 use Rattle.registers.specs.Deeds.{softResetByte, isReset, judgement, clears}
 use Rattle.registers.specs.Refused.{writeAnswer}
@@ -29,16 +29,16 @@ pub record Banked (c : ℕ) (regs : List ℕ) : Type 0 where
   pub control : getD regs controlAt 0 ≡ c
 
 pub banked-first : Banked 0 firstBytes
-unfolding firstBytes resetBytes rowOf paperLineOf listed
+unfolding firstBytes theTable
 banked-first = record { long = refl; control = refl }
 
 -- "3E:00/C3"
 stored-control : (byte : ℕ) → merged (rowAt controlAt) byte ≡ bitAnd byte 0xC3
-unfolding rowAt rowOf paperLineOf listed refusedBits
+unfolding theTable
 stored-control byte = or-zero-r (bitAnd byte 0xC3)
 
 writable-control : writable controlAt ≡ true
-unfolding rowAt rowOf paperLineOf listed refusedBits
+unfolding theTable
 writable-control = refl
 
 both-true : (t : Bool) → both t true ≡ t
@@ -62,7 +62,7 @@ module _ {c : ℕ} {regs : List ℕ} (h : Banked c regs) where
 
   -- the two registers that a soft reset leaves are not 0x3E
   reset-banked : Banked 0 (regsReset regs)
-  unfolding firstBytes resetBytes rowOf paperLineOf listed
+  unfolding firstBytes theTable
   reset-banked = record { long = refl; control = refl }
 
   control-stored : (byte : ℕ) → Banked (bitAnd byte 0xC3) (storedAt regs controlAt (merged (rowAt controlAt) byte))

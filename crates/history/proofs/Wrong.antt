@@ -10,8 +10,8 @@ use Rattle.codes.specs.Mode.{modeOf}
 use Rattle.device.specs.Sample.{sampleAnswer}
 use Rattle.registers.specs.Deeds.{clears}
 use Rattle.events.specs.Event.{Event, write, sample}
-use Rattle.history.specs.Chip.{readOut, Chip, Twin, since}
-use Rattle.history.specs.Demand.{fates, dueStatus, Demand3}
+use Rattle.demand3.specs.Chip.{readOut, Chip, Twin, since}
+use Rattle.demand3.specs.Demand.{fates, dueStatus, Demand3}
 use Rattle.history.specs.History.{control, saysHere, accelerometer, twin}
 use Rattle.history.proofs.Conserve.{demand3}
 

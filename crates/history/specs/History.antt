@@ -32,10 +32,10 @@ use Rattle.device.specs.Read.{bufferAfter}
 use Rattle.device.specs.Sample.{sampleAnswer}
 use Rattle.events.specs.Event.{Event, powerUp, write, read, sample, cycle, clock}
 use Rattle.events.specs.Run.{after}
-use Rattle.history.specs.Chip.{Said, cleared, sampled, readOut, nothing, Chip, Twin, since}
-use Rattle.history.specs.Counts.{arrivals, heldAfter}
-use Rattle.history.specs.Demand.{fates, Demand3}
-use Rattle.history.specs.Lost.{Saw}
+use Rattle.demand3.specs.Chip.{Said, cleared, sampled, readOut, nothing, Chip, Twin, since}
+use Rattle.demand3.specs.Counts.{arrivals, heldAfter}
+use Rattle.demand3.specs.Demand.{fates, Demand3}
+use Rattle.demand3.specs.Lost.{Saw}
 
 -- an accepted read at 0x3F, of an address and a length
 unfoldable pub readsOut : ℕ → ℕ → Bool

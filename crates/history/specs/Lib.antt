@@ -1,6 +1,1 @@
-pub mod Counts
-pub mod Lost
-pub mod Chip
-pub mod Demand
-pub mod Whole
 pub mod History

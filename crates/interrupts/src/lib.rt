@@ -91,19 +91,11 @@ pub fn data_byte(statuses: Statuses) -> u8
 fn any_mapped(statuses: Statuses, mapped: Statuses) -> bool
     ensures { λ r. ⌜ r ≡ anyMapped statuses mapped ⌝ }
 {
-    if both(statuses.motion, mapped.motion) {
-        return true;
-    }
-    if both(statuses.ready, mapped.ready) {
-        return true;
-    }
-    if both(statuses.watermark, mapped.watermark) {
-        return true;
-    }
-    if both(statuses.full, mapped.full) {
-        return true;
-    }
-    false
+    let motion = both(statuses.motion, mapped.motion);
+    let ready = both(statuses.ready, mapped.ready);
+    let watermark = both(statuses.watermark, mapped.watermark);
+    let full = both(statuses.full, mapped.full);
+    motion | (ready | (watermark | full))
 }
 
 // Which statuses are mapped to a pin.

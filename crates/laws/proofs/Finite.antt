@@ -9,7 +9,7 @@ use native.Mathlib.Omega.{arith}
 use lib.Dec.{eqb}
 use lib.ListN.{getD}
 use borrow.Author.Tests.{eqb-true}
-use Rattle.laws.specs.Choice.{pick, both}
+use Rattle.laws.specs.Choice.{pick, both, either}
 use Rattle.laws.specs.Lists.{isIn}
 use Rattle.laws.specs.Table.{upFrom}
 use Rattle.laws.proofs.Table.{entry}
@@ -34,6 +34,10 @@ left false c h = h
 pub right : (b c : Bool) → both b c ≡ true → c ≡ true
 right true c h = h
 right false c h = cc
+
+pub either-false : (b : Bool) → either b false ≡ b
+either-false true = refl
+either-false false = refl
 
 -- what holds at each number of a list holds at any number that is in it
 abbrev pub AtEach : (ℕ → Type 0) → List ℕ → Type 0

@@ -6,3 +6,4 @@ pub mod Outcome
 pub mod Keys
 pub mod Bits
 pub mod Ints
+pub mod Words

@@ -1,8 +1,10 @@
-// What every crate shares: a bit of a byte, two tests at once, the least of two numbers, bytes that move. The laws themselves are in
-// specs/ and proofs/.
+// What every crate shares: a bit of a byte, two tests at once, the 16 bits of a signed number, the least of two numbers, bytes that move. The
+// laws themselves are in specs/ and proofs/.
 ghost use mathlib.Core.Path.{_≡_};
 ghost use Prim.Native.Nat.{min};
 ghost use lib.ListN.{length};
+ghost use mir.Syntax.{w16};
+ghost use mir.Val.{ofZ};
 ghost use Rattle.laws.specs.Bytes.{between, movedForward};
 ghost use Rattle.laws.specs.Bits as bits;
 ghost use Rattle.laws.specs.Choice as choice;
@@ -22,6 +24,13 @@ pub fn both(a: bool, b: bool) -> bool
     ensures { λ r. ⌜ r ≡ choice.both a b ⌝ }
 {
     if a { b } else { false }
+}
+
+// The 16 bits of a signed number.
+pub fn word_of(x: i16) -> u16
+    ensures { λ r. ⌜ r ≡ ofZ w16 x ⌝ }
+{
+    ((x as i32) & 65535) as u16
 }
 
 pub fn least(a: usize, b: usize) -> usize

@@ -19,7 +19,7 @@ use Rattle.codes.specs.Addresses.{framesAt, latchAt}
 use Rattle.codes.specs.Mode.{modeOf}
 use Rattle.codes.specs.Range.{rangeOf}
 use Rattle.channels.specs.Codes.{inRange}
-use Rattle.table.specs.Rows.{rowAt, rowOf, paperLineOf, listed, refusedBits, reservedAddresses}
+use Rattle.table.specs.Rows.{rowAt, theTable}
 use Rattle.registers.specs.Answers.{number, accepted}
 use Rattle.registers.specs.Deeds.{judgement}
 use Rattle.registers.specs.Refused.{reservedCode, notModelled, lackAt, writeRows, readRows, answerAt, writeAnswer, readAnswer}
@@ -247,5 +247,5 @@ pub each-given : (d : Device)
     roomNumber (written [] 0 (1 ∷ []) .room) ∷
     number (writeOf d 0x18 0x04 .answer) ∷ number (writeOf d 0x11 0x20 .answer) ∷ number (writeOf d 0x38 0x01 .answer) ∷ []
     ≡ 0 ∷ 1 ∷ 2 ∷ 4 ∷ 5 ∷ 6 ∷ 7 ∷ 8 ∷ 9 ∷ 10 ∷ 11 ∷ 12 ∷ 13 ∷ []
-unfolding writeOf judgement answerAt reservedCode rangeOf modeOf notModelled lackAt rowAt rowOf paperLineOf listed refusedBits reservedAddresses readOf readAnswer sampleOf sampleAnswer readVersion readHead foundIn roomFor
+unfolding writeOf judgement answerAt reservedCode rangeOf modeOf notModelled lackAt theTable readOf readAnswer sampleOf sampleAnswer readVersion readHead foundIn roomFor
 each-given d = refl

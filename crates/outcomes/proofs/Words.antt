@@ -21,7 +21,7 @@ use Rattle.codes.specs.Range.{rangeOf}
 use Rattle.registers.specs.Answers.{number}
 use Rattle.registers.specs.Refused.{reservedCode, notModelled, lackAt}
 use Rattle.registers.proofs.Answers.{lack-any}
-use Rattle.table.specs.Rows.{rowAt, rowOf, paperLineOf, listed, refusedBits, reservedAddresses}
+use Rattle.table.specs.Rows.{rowAt, theTable}
 use Rattle.outcomes.specs.Numbers.{isReservedWrite, isDetectorWrite, isPowerModeWrite, isTestOrTrimWrite, Outside}
 
 pub no : {X : Type 0} → false ≡ true → X
@@ -125,15 +125,15 @@ module _ (regs : List ℕ) where
   lackNumbered n a b = both (eqb n (number (lackAt a))) (notModelled regs (rowAt a) a b)
 
   pub detector-is : (a b : ℕ) → a < 64 → b < 256 → lackNumbered 11 a b ≡ isDetectorWrite a b
-  unfolding notModelled lackAt rowAt rowOf paperLineOf listed refusedBits reservedAddresses isDetectorWrite bit
+  unfolding notModelled lackAt theTable isDetectorWrite bit
   detector-is = everywhere (lackNumbered 11) isDetectorWrite refl
 
   pub power-mode-is : (a b : ℕ) → a < 64 → b < 256 → lackNumbered 12 a b ≡ isPowerModeWrite a b
-  unfolding notModelled lackAt rowAt rowOf paperLineOf listed refusedBits reservedAddresses isPowerModeWrite bit
+  unfolding notModelled lackAt theTable isPowerModeWrite bit
   power-mode-is = everywhere (lackNumbered 12) isPowerModeWrite refl
 
   pub test-or-trim-is : (a b : ℕ) → a < 64 → b < 256 → lackNumbered 13 a b ≡ isTestOrTrimWrite a b
-  unfolding notModelled lackAt rowAt rowOf paperLineOf listed refusedBits reservedAddresses isTestOrTrimWrite bit
+  unfolding notModelled lackAt theTable isTestOrTrimWrite bit
   test-or-trim-is = everywhere (lackNumbered 13) isTestOrTrimWrite refl
 
 -- ---- 4

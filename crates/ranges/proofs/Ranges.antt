@@ -16,7 +16,7 @@ use Rattle.codes.specs.Addresses.{rangeAt}
 use Rattle.codes.specs.Range.{rangeOf, isReservedRange}
 use Rattle.codes.specs.declared.Range.{Range}
 use Rattle.codes.specs.declared.Range.the-variants.{G2, G4, G8, G16, Reserved}
-use Rattle.table.specs.Rows.{rowAt, rowOf, paperLineOf, listed, refusedBits}
+use Rattle.table.specs.Rows.{theTable}
 use Rattle.registers.specs.Answers.{number, accepted}
 use Rattle.registers.specs.Refused.{reservedCode, notModelled, answerAt, writeAnswer}
 use Rattle.registers.specs.declared.Answer.the-variants.{Done, ReservedCode}
@@ -26,10 +26,10 @@ use Rattle.device.specs.Show.{rangeIn}
 use Rattle.events.specs.Bank.{bank}
 use Rattle.events.specs.Event.{Event, write, gives}
 use Rattle.events.specs.Run.{after}
-use Rattle.rules.specs.Paper.{tableRows, resetOf, maskOf, masked, accepts}
-use Rattle.rules.specs.Stored.{ByteWrites, byteBy}
-use Rattle.rules.proofs.Paper.{accepts-is}
-use Rattle.rules.proofs.Stored.{stored-is}
+use Rattle.paper.specs.Table.{tableRows, resetOf, maskOf, masked, accepts}
+use Rattle.paper.specs.Stored.{ByteWrites, byteBy}
+use Rattle.paper.proofs.Table.{accepts-is}
+use Rattle.paper.proofs.Stored.{stored-is}
 use Rattle.rules.proofs.Registers as registers
 use Rattle.ranges.specs.Ranges.{IsOther, MeansG, RangeRule}
 
@@ -114,7 +114,7 @@ module _ (es : List Event) where
 
 -- ---- the others
 answer-at : (regs : List ℕ) (byte : ℕ) → writeAnswer regs rangeAt byte ≡ pick (isReservedRange (rangeOf byte)) ReservedCode Done
-unfolding answerAt reservedCode notModelled rowAt rowOf paperLineOf listed refusedBits
+unfolding answerAt reservedCode notModelled theTable
 answer-at regs byte = rw (and-zero-r byte)
 
 refused-none : (r : Range) → (number (pick (isReservedRange r) ReservedCode Done) ≡ 2) ↔ (inG r ≡ 0)

@@ -7,7 +7,7 @@ use mathlib.Core.Path.{_≡_}
 use Rattle.device.specs.Show.{rangeIn}
 use Rattle.events.specs.Event.{Event, write, gives}
 use Rattle.events.specs.Run.{after}
-use Rattle.rules.specs.Stored.{byteBy}
+use Rattle.paper.specs.Stored.{byteBy}
 use Rattle.counts.specs.Counts.{inG}
 
 -- "every other low nibble"

@@ -15,7 +15,7 @@ use Rattle.laws.proofs.Finite.{of-pick, at-any, agree-at}
 use Rattle.codes.specs.Addresses.{rangeAt, resetAt, controlAt, framesAt}
 use Rattle.codes.specs.Mode.{modeOf, isReservedMode}
 use Rattle.codes.specs.Range.{rangeOf, isReservedRange}
-use Rattle.table.specs.Rows.{rowAt, rowOf, paperLineOf, listed, refusedBits, writable}
+use Rattle.table.specs.Rows.{rowAt, writable, theTable}
 use Rattle.registers.specs.Answers.{accepted}
 use Rattle.registers.specs.Deeds.{softResetByte, isReset, deedsOf, noDeeds, judgement, clears}
 use Rattle.registers.specs.Refused.{reservedCode, notModelled, answerAt, writeAnswer}
@@ -29,15 +29,15 @@ unless false = refl
 
 module _ (regs : List ℕ) (b : ℕ) where
   pub range-accepted : accepted (writeAnswer regs rangeAt b) ≡ not (isReservedRange (rangeOf b))
-  unfolding answerAt reservedCode notModelled rowAt rowOf paperLineOf listed refusedBits
+  unfolding answerAt reservedCode notModelled theTable
   range-accepted = rw (and-zero-r b) (unless (isReservedRange (rangeOf b)))
 
   pub reset-accepted : accepted (writeAnswer regs resetAt b) ≡ true
-  unfolding answerAt reservedCode notModelled rowAt rowOf paperLineOf listed refusedBits
+  unfolding answerAt reservedCode notModelled theTable
   reset-accepted = rw (and-zero-r b)
 
   pub control-accepted : accepted (writeAnswer regs controlAt b) ≡ not (isReservedMode (modeOf b))
-  unfolding answerAt reservedCode notModelled rowAt rowOf paperLineOf listed refusedBits
+  unfolding answerAt reservedCode notModelled theTable
   control-accepted = rw (and-zero-r b) (unless (isReservedMode (modeOf b)))
 
 -- it is the same whatever the registers hold

@@ -25,8 +25,8 @@ abbrev pub isReset : ℕ → ℕ → Bool
 isReset a b = both (eqb a resetAt) (eqb b softResetByte)
 
 -- "An accepted write to 0x0F, 0x16, 0x21, 0x27 or 0x28 clears status, marks and runs"
-abbrev pub restarting : List ℕ
-restarting = rangeAt ∷ axesAt ∷ latchAt ∷ pointsAt ∷ thresholdAt ∷ []
+abbrev pub motionRestarting : List ℕ
+motionRestarting = rangeAt ∷ axesAt ∷ latchAt ∷ pointsAt ∷ thresholdAt ∷ []
 
 -- what an accepted write does
 unfoldable pub deedsOf : List ℕ → Row → ℕ → ℕ → Deeds
@@ -39,13 +39,13 @@ deedsOf regs r a b = record {
   releases = both (eqb a shadowAt) (bit 6 b);
   -- "0x0F also forgets the previous sample"
   forgets = eqb a rangeAt;
-  restarts = isIn restarting a;
+  restarts = record { motion = isIn motionRestarting a };
   resets = isReset a b;
 }
 
 -- what a refused write does
 abbrev pub noDeeds : Deeds
-noDeeds = record { stores = false; empties = false; releases = false; forgets = false; restarts = false; resets = false }
+noDeeds = record { stores = false; empties = false; releases = false; forgets = false; restarts = record { motion = false }; resets = false }
 
 abbrev pub deedsWhen : Bool → List ℕ → Row → ℕ → ℕ → Deeds
 deedsWhen ok regs r a b = pick ok (deedsOf regs r a b) noDeeds

@@ -2,7 +2,7 @@
 ghost use mathlib.Core.Path.{_≡_};
 ghost use Rattle.registers.specs.Answers.{number, place, accepted};
 ghost use Rattle.registers.specs.Refused.{reservedCode, notModelled, lackAt, answerAt, readAnswer};
-ghost use Rattle.registers.specs.Deeds.{isReset, restarting, deedsOf, deedsWhen, judgementAt, judgement};
+ghost use Rattle.registers.specs.Deeds.{isReset, motionRestarting, deedsOf, deedsWhen, judgementAt, judgement};
 ghost use Rattle.laws.specs.Lists.{isIn};
 use codes::AXES_AT;
 use codes::CONTROL_AT;
@@ -46,14 +46,19 @@ pub enum Answer {
     NoTestOrTrim,
 }
 
+// Which detectors a write starts anew.
+pub struct Restarts {
+    pub motion: bool,
+}
+
 // What a write does: its byte is stored; the FIFO is emptied and its overrun cleared; the locks are released; the previous sample is
-// forgotten; any-motion starts anew; everything goes back to power-up.
+// forgotten; detectors start anew; everything goes back to power-up.
 pub struct Deeds {
     pub stores: bool,
     pub empties: bool,
     pub releases: bool,
     pub forgets: bool,
-    pub restarts: bool,
+    pub restarts: Restarts,
     pub resets: bool,
 }
 
@@ -63,7 +68,7 @@ const NO_DEEDS: Deeds = Deeds {
     empties: false,
     releases: false,
     forgets: false,
-    restarts: false,
+    restarts: Restarts { motion: false },
     resets: false,
 };
 
@@ -201,8 +206,8 @@ fn is_reset(address: u8, byte: u8) -> bool
 }
 
 // Whether any-motion starts anew at an accepted write.
-fn is_restarting(address: u8) -> bool
-    ensures { λ r. ⌜ r ≡ isIn restarting address ⌝ }
+fn restarts_motion(address: u8) -> bool
+    ensures { λ r. ⌜ r ≡ isIn motionRestarting address ⌝ }
 {
     let at = address as usize;
     match at {
@@ -221,12 +226,15 @@ fn deeds_of(regs: &[u8; 64], row: Row, address: u8, byte: u8) -> Deeds
 {
     let at = address as usize;
     let resets = is_reset(address, byte);
+    let restarts = Restarts {
+        motion: restarts_motion(address),
+    };
     Deeds {
         stores: row.1 != 0,
         empties: (at == CONTROL_AT) | resets,
         releases: both(at == SHADOW_AT, bit(byte, 6)),
         forgets: at == RANGE_AT,
-        restarts: is_restarting(address),
+        restarts,
         resets,
     }
 }

@@ -17,7 +17,7 @@ use Rattle.device.specs.declared.Device.{Device}
 use Rattle.events.specs.Event.{Event, Given, powerUp, write, read, sample, cycle, clock, happens, lentBy, gives}
 use Rattle.events.specs.Run.{after}
 use Rattle.events.proofs.Given.{read-gives}
-use Rattle.rules.specs.Stored.{ByteWrites}
+use Rattle.paper.specs.Stored.{ByteWrites}
 use Rattle.demand2.proofs.Demand2.{demand2}
 use Rattle.demand2.proofs.Watermark.{watermark}
 use Rattle.replayed.specs.Events.{eventsOf}

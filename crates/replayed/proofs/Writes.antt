@@ -15,7 +15,7 @@ use Rattle.benchlog.specs.declared.Found.the-variants as found
 use Rattle.benchlog.proofs.Trips.{read-proper-at}
 use Rattle.events.specs.Event.{Event, powerUp, write, read, sample, cycle, clock}
 use Rattle.entries.specs.Entries.{eventOf}
-use Rattle.rules.specs.Stored.{ByteWrites}
+use Rattle.paper.specs.Stored.{ByteWrites}
 use Rattle.replayed.specs.Events.{recordsIn, eventsBehind, eventsOf}
 
 -- a record whose fields fit, and many

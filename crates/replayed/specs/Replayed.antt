@@ -13,7 +13,7 @@ use Rattle.fifo.specs.Ledger.{heldOf}
 use Rattle.events.specs.Event.{Event, read, gives}
 use Rattle.events.specs.Run.{after}
 use Rattle.follow.specs.Whole.{joined}
-use Rattle.history.specs.Demand.{fates}
+use Rattle.demand3.specs.Demand.{fates}
 use Rattle.history.specs.History.{accelerometer}
 use Rattle.rules.specs.Bursts.{isBurst}
 use Rattle.rules.specs.Rules.{ruledFrom}

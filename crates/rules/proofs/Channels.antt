@@ -20,8 +20,8 @@ use Rattle.registers.specs.Answers.{accepted}
 use Rattle.registers.specs.declared.Answer.the-variants.{Done, OutOfRange}
 use Rattle.device.specs.Sample.{sampleAnswer}
 use Rattle.events.specs.Event.{Event, sample}
-use Rattle.rules.specs.Stored.{byteBy}
-use Rattle.rules.specs.Back.{beforeLast}
+use Rattle.paper.specs.Stored.{byteBy}
+use Rattle.paper.specs.Back.{beforeLast}
 use Rattle.rules.specs.Data.{isStart, isInside, isSample, isRead, isRelease, noValues, valuesOf, twelveBits, Axis, present, newData, locking, isLocked, dataAddresses, xAxis, yAxis, zAxis}
 
 -- a channel is as a history tells of its axis

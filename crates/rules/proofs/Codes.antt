@@ -14,7 +14,7 @@ use Rattle.codes.specs.Addresses.{rangeAt, controlAt, framesAt}
 use Rattle.codes.specs.Range.{rangeOf, isReservedRange}
 use Rattle.codes.specs.Mode.{modeOf, isReservedMode}
 use Rattle.codes.specs.declared.Mode.the-variants.{Bypass, Fifo, Stream, Reserved}
-use Rattle.table.specs.Rows.{rowAt, rowOf, paperLineOf, listed, refusedBits, reservedAddresses, resetBytes, merged}
+use Rattle.table.specs.Rows.{rowAt, merged, theTable}
 use Rattle.registers.specs.Answers.{accepted}
 use Rattle.registers.specs.Refused.{writeAnswer, answerAt, reservedCode, notModelled, lackAt}
 use Rattle.registers.specs.declared.Answer.the-variants.{Done, NoAddress, ReservedCode}
@@ -23,7 +23,7 @@ use Rattle.device.specs.Device.{firstBytes, powerUp, reg}
 
 -- ---- "Refused 3: a 1 in ..", 11 to 13 by Q-1
 pub first-clear : (a : ℕ) → a < 64 → bitAnd (reg powerUp a) (rowAt a .2) ≡ 0
-unfolding powerUp firstBytes resetBytes rowAt rowOf paperLineOf listed refusedBits reservedAddresses
+unfolding powerUp firstBytes theTable
 first-clear = alike (λ i. bitAnd (reg powerUp i) (rowAt i .2)) (λ i. 0) 64 refl
 
 small-mode : (q : ℕ) → isReservedMode (pick (eqb q 0) Bypass (pick (eqb q 1) Fifo (pick (eqb q 2) Stream Reserved))) ≡ false → q < 3
@@ -55,13 +55,13 @@ module _ (regs : List ℕ) where
   -- ---- the codes of 0F and 3E
   module _ (byte : ℕ) where
     pub range-stored : accepted (writeAnswer regs rangeAt byte) ≡ true → isReservedRange (rangeOf (merged (rowAt rangeAt) byte)) ≡ false
-    unfolding rowAt rowOf paperLineOf listed refusedBits reservedAddresses rangeOf reservedCode
+    unfolding theTable rangeOf reservedCode
     range-stored h =
         let e : byte % 16 % 16 ≡ byte % 16 = omega arith in
         rw (or-zero-r (bitAnd byte 0x0F), and-mask byte 4, e) (none-due rangeAt byte h .0)
 
     pub mode-stored : accepted (writeAnswer regs controlAt byte) ≡ true → isReservedMode (modeOf (merged (rowAt controlAt) byte)) ≡ false
-    unfolding rowAt rowOf paperLineOf listed refusedBits reservedAddresses modeOf reservedCode
+    unfolding theTable modeOf reservedCode
     mode-stored h =
         let n = none-due controlAt byte h .0 in
         let q : bitAnd byte 0xC3 / 64 ≡ byte / 64 % 4 = and-shr byte 0xC3 6 ∙ and-mask (byte / 64) 2 in

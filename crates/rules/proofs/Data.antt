@@ -14,7 +14,7 @@ use Rattle.laws.specs.Choice.{pick, both}
 use Rattle.laws.specs.Bits.{bit}
 use Rattle.laws.proofs.Finite.{picked}
 use Rattle.codes.specs.Addresses.{shadowAt}
-use Rattle.table.specs.Rows.{rowAt, rowOf, paperLineOf, listed, refusedBits, reservedAddresses}
+use Rattle.table.specs.Rows.{theTable}
 use Rattle.channels.specs.Channels.{noSamples, sampled, released, afterLsb, unlocked, byteAt, lsb, msb}
 use Rattle.channels.specs.Codes.{codes, msbOf}
 use Rattle.channels.specs.declared.Channel.{Channel}
@@ -32,17 +32,17 @@ use Rattle.events.specs.Bank.{bank}
 use Rattle.events.specs.Parts.{channelsNext}
 use Rattle.events.proofs.Parts.{channels-next}
 use Rattle.events.proofs.Runs.{bank-is}
-use Rattle.rules.specs.Stored.{ByteWrites, byteBy}
+use Rattle.paper.specs.Stored.{ByteWrites, byteBy}
 use Rattle.rules.specs.Bursts.{isBurst, singles, opened}
-use Rattle.rules.specs.Back.{beforeLast}
+use Rattle.paper.specs.Back.{beforeLast}
 use Rattle.rules.specs.Data.{isSample, isRead, isRelease, valuesOf, Axis, present, newData, locking, isLocked, lsbShown, msbShown, xAxis, yAxis, zAxis, dataBy}
-use Rattle.rules.proofs.Stored.{stored-is}
+use Rattle.paper.proofs.Stored.{stored-is}
 use Rattle.rules.proofs.Bursts.{burst-is, burst-bounds, one-read, opened-same}
 use Rattle.rules.proofs.Channels.{no, Shows, starts, samples, reads-lsb, unlocks, passes, code-is, sample-is, Part, x-part, y-part, z-part}
 
 -- ---- a release
 shadow-accepted : (regs : List ℕ) (byte : ℕ) → accepted (writeAnswer regs shadowAt byte) ≡ true
-unfolding answerAt reservedCode notModelled rowAt rowOf paperLineOf listed refusedBits reservedAddresses
+unfolding answerAt reservedCode notModelled theTable
 shadow-accepted regs byte = rw (and-zero-r byte)
 
 releases-is : (regs : List ℕ) (a byte : ℕ) → judgement regs a byte .deeds .releases ≡ isRelease (write a byte)

@@ -1,9 +1,5 @@
-pub mod Bits
-pub mod Paper
 pub mod Codes
-pub mod Writes
 pub mod Proper
-pub mod Stored
 pub mod Bursts
 pub mod Channels
 pub mod Data

@@ -11,7 +11,7 @@ use Rattle.events.specs.Event.{Event, powerUp, write, read, sample, cycle, cloc
 use Rattle.events.specs.Run.{after}
 use Rattle.events.specs.Parts.{temperatureNext, cameNext}
 use Rattle.events.proofs.Parts.{by-parts}
-use Rattle.rules.specs.Stored.{isSoftReset}
+use Rattle.paper.specs.Stored.{isSoftReset}
 use Rattle.rules.specs.Data.{isSample, Values, noValues, valuesOf, lastSample}
 use Rattle.rules.specs.Rules.{cameBy}
 use Rattle.rules.proofs.Channels.{sample-is}

@@ -15,7 +15,7 @@ use Rattle.device.specs.Show.{shownByte, pinsOf}
 use Rattle.device.specs.Read.{byteFrom}
 use Rattle.events.specs.Event.{Event}
 use Rattle.events.specs.Run.{after}
-use Rattle.rules.specs.Stored.{ByteWrites}
+use Rattle.paper.specs.Stored.{ByteWrites}
 use Rattle.rules.specs.Rules.{ruled, toInt1, toInt2, someMapped, Leveled}
 use Rattle.rules.proofs.Reading.{elsewhereIn, statusesNow, byte-ruled}
 

@@ -14,7 +14,7 @@ use Rattle.codes.specs.Addresses.{controlAt}
 use Rattle.codes.specs.Mode.{modeOf, isReservedMode}
 use Rattle.codes.specs.Axes.{axesOf}
 use Rattle.codes.specs.Range.{rangeOf}
-use Rattle.table.specs.Rows.{rowAt, rowOf, paperLineOf, listed, refusedBits, reservedAddresses, resetBytes, merged, writable}
+use Rattle.table.specs.Rows.{rowAt, merged, writable, theTable}
 use Rattle.channels.specs.Codes.{codes}
 use Rattle.alarm.specs.Alarm.{Marked}
 use Rattle.slopes.specs.Previous.{slopesTo}
@@ -42,13 +42,13 @@ use Rattle.events.specs.Bank.{bankNext}
 use Rattle.events.specs.Parts.{flatNext, detectorsNext, readsFrames}
 use Rattle.events.proofs.Parts.{regs-next, flat-next, detectors-next}
 use Rattle.events.proofs.Runs.{bank-is, bank-length, first-length}
-use Rattle.rules.specs.Proper.{isStored, LeftByWrite, Proper}
-use Rattle.rules.proofs.Writes.{byteWritten, byte-written, byte-next}
+use Rattle.rules.specs.Proper.{LeftByWrite, Proper}
+use Rattle.paper.proofs.Writes.{isStored, byteWritten, byte-written, byte-next, fixed-next}
 
 -- ---- the registers
 -- the reset byte is one that a write leaves
 first-written : (a : ℕ) → a < 64 → writable a ≡ true → LeftByWrite a (getD firstBytes a 0)
-unfolding firstBytes resetBytes rowAt rowOf paperLineOf listed refusedBits reservedAddresses answerAt reservedCode notModelled rangeOf modeOf
+unfolding firstBytes theTable answerAt reservedCode notModelled rangeOf modeOf
 first-written a h w =
     let is = alike (λ i. getD firstBytes i 0) (λ i. pick (writable i) (merged (rowAt i) (getD firstBytes i 0)) (getD firstBytes i 0)) 64 refl a h in
     record {
@@ -59,10 +59,6 @@ first-written a h w =
     }
 
 module _ (regs : List ℕ) (long : length regs ≡ 64) (e : Event) (a : ℕ) (h : a < 64) where
-  fixed-next : writable a ≡ false → getD regs a 0 ≡ getD firstBytes a 0 → getD (bankNext regs e) a 0 ≡ getD firstBytes a 0
-  fixed-next w p =
-      byte-next (λ (v : ℕ). v ≡ getD firstBytes a 0) regs long a e p refl (λ byte s. cc (w, right (accepted (writeAnswer regs a byte)) (writable a) s))
-
   written-next : writable a ≡ true → LeftByWrite a (getD regs a 0) → LeftByWrite a (getD (bankNext regs e) a 0)
   written-next w p =
       byte-next (λ (v : ℕ). LeftByWrite a v) regs long a e p (first-written a h w)
@@ -132,7 +128,7 @@ marked-next regs s h (write a byte) = go (judgement regs a byte .deeds)
     go : (e : Deeds) → Marked (detectorsWritten e s .motion .alarm)
     go e =
         picked (λ (k : Detectors). Marked (k .motion .alarm)) (e .resets) marked-quiet
-        (picked (λ (m : Motion). Marked (m .alarm)) (e .restarts) (marked-restart (s .motion)) h)
+        (picked (λ (m : Motion). Marked (m .alarm)) (e .restarts .motion) (marked-restart (s .motion)) h)
 marked-next regs s h (read a n) = h
 marked-next regs s h (sample x y z t) =
     picked (λ (k : Detectors). Marked (k .motion .alarm)) (accepted (sampleAnswer x y z)) (marked-sample (motionSettings regs) (slopesTo x y z (s .previous)) (s .motion) h) h
@@ -159,7 +155,7 @@ proper-next es p e =
     let f = ap (λ (f : Flat). f .count) (flat-next d e) in
     record {
       long = ap length (bank-is (e ∷ es)) ∙ bank-length (e ∷ es);
-      fixed = λ a h w. rw r (fixed-next regs (p .long) e a h w (p .fixed a h w));
+      fixed = λ a h w. rw r (fixed-next regs (p .long) e a w (p .fixed a h w));
       written = λ a h w. rw r (written-next regs (p .long) e a h w (p .written a h w));
       few = rw (f, r) (few-next regs (p .long) (flatOf d) (p .few) e);
       marked = rw (detectors-next d e) (marked-next regs (d .detectors) (p .marked) e);

@@ -32,12 +32,12 @@ use Rattle.events.specs.Event.{Event, read, Given, gives, bytes}
 use Rattle.events.specs.Run.{after, allGiven, bytesJoined}
 use Rattle.events.specs.Bank.{stored}
 use Rattle.events.proofs.Runs.{bank-is}
-use Rattle.rules.specs.Stored.{ByteWrites}
+use Rattle.paper.specs.Stored.{ByteWrites}
 use Rattle.rules.specs.Bursts.{isBurst, singles}
 use Rattle.rules.specs.Data.{lastSample}
 use Rattle.rules.specs.Rules.{Elsewhere, dataStatus, fullStatus, watermarkStatus, ruled, ruledFrom}
 use Rattle.rules.proofs.Proper.{deep, proper}
-use Rattle.rules.proofs.Stored.{stored-is}
+use Rattle.paper.proofs.Stored.{stored-is}
 use Rattle.rules.proofs.Bursts.{burst-bounds, single, single-next, burst-gives}
 use Rattle.rules.proofs.Data.{data-is}
 use Rattle.rules.proofs.Past.{temperature-is, came-is}

@@ -15,7 +15,7 @@ use Rattle.laws.proofs.Finite.{alike, left, right, all, each}
 use Rattle.codes.specs.Addresses.{rangeAt, controlAt, resetAt, enablesAt, levelAt}
 use Rattle.codes.specs.Range.{rangeOf, isReservedRange}
 use Rattle.codes.specs.Mode.{modeOf, isReservedMode}
-use Rattle.table.specs.Rows.{listed, reservedAddresses, paperLineOf, refusedBits, rowOf, rowAt, resetBytes, merged, writable}
+use Rattle.table.specs.Rows.{reservedAddresses, rowAt, merged, writable, theTable}
 use Rattle.detectors.specs.Detectors.{detectorsWritten}
 use Rattle.interrupts.specs.Statuses.{statusesOf}
 use Rattle.registers.specs.Answers.{number, accepted}
@@ -33,10 +33,9 @@ use Rattle.events.specs.Bank.{bank, stored}
 use Rattle.events.proofs.Runs.{bank-is, bank-length}
 use Rattle.rules.specs.Data.{dataAddresses}
 use Rattle.rules.specs.Rules.{isTabled}
-use Rattle.rules.specs.Proper.{isStored, spared}
-use Rattle.rules.proofs.Bits.{bit-merged, bit-clear}
+use Rattle.paper.proofs.Bits.{bit-merged, bit-clear}
 use Rattle.rules.proofs.Codes.{accepted-clear, first-clear, range-stored, mode-stored}
-use Rattle.rules.proofs.Writes.{byteWritten, byte-written, reset-byte}
+use Rattle.paper.proofs.Writes.{isStored, spared, byteWritten, byte-written, reset-byte}
 use Rattle.rules.proofs.Proper.{proper}
 use Rattle.rules.proofs.Bursts.{single}
 
@@ -84,32 +83,32 @@ reads-constant v l c es a m = go (ltb a 0x3F) refl (isTabled a) refl (writable a
 
 -- two registers that can be written
 settable : (a : ℕ) → isIn (rangeAt ∷ controlAt ∷ []) a ≡ true → writable a ≡ true
-unfolding rowAt rowOf paperLineOf listed refusedBits reservedAddresses
+unfolding theTable
 settable = each writable (rangeAt ∷ controlAt ∷ []) refl
 
 module _ (es : List Event) where
   -- "00 (0xFA)"
   pub reads-chip : gives (after es) (read 0x00 1) ≡ bytes (chipNumber ∷ [])
-  unfolding powerUp firstBytes resetBytes rowAt rowOf paperLineOf listed refusedBits reservedAddresses
+  unfolding powerUp firstBytes theTable
   reads-chip = reads-constant chipNumber (0x00 ∷ []) refl es 0x00 refl
 
   -- "Reserved addresses 01, 0D, 15, 1C, 1D, 1F, 31, 35, 3D read 0xFF"
   pub reads-reserved : (a : ℕ) → isIn reservedAddresses a ≡ true → gives (after es) (read a 1) ≡ bytes (0xFF ∷ [])
-  unfolding powerUp firstBytes resetBytes rowAt rowOf paperLineOf listed refusedBits reservedAddresses
+  unfolding powerUp firstBytes theTable
   reads-reserved = reads-constant 0xFF reservedAddresses refl es
 
   -- "02 to 0C .. (0)", of which 0C has no rule of its own; "Address 14 reads 0"
   pub reads-nothing : (a : ℕ) → isIn (0x0C ∷ 0x14 ∷ []) a ≡ true → gives (after es) (read a 1) ≡ bytes (0 ∷ [])
-  unfolding powerUp firstBytes resetBytes rowAt rowOf paperLineOf listed refusedBits reservedAddresses
+  unfolding powerUp firstBytes theTable
   reads-nothing = reads-constant 0 (0x0C ∷ 0x14 ∷ []) refl es
 
   -- "33:F4/00", "36:10/00"
   pub reads-33 : gives (after es) (read 0x33 1) ≡ bytes (0xF4 ∷ [])
-  unfolding powerUp firstBytes resetBytes rowAt rowOf paperLineOf listed refusedBits reservedAddresses
+  unfolding powerUp firstBytes theTable
   reads-33 = reads-constant 0xF4 (0x33 ∷ []) refl es 0x33 refl
 
   pub reads-36 : gives (after es) (read 0x36 1) ≡ bytes (0x10 ∷ [])
-  unfolding powerUp firstBytes resetBytes rowAt rowOf paperLineOf listed refusedBits reservedAddresses
+  unfolding powerUp firstBytes theTable
   reads-36 = reads-constant 0x10 (0x36 ∷ []) refl es 0x36 refl
 
   -- ---- the settings
@@ -151,7 +150,7 @@ module _ (es : List Event) where
 -- ---- one write more
 -- an address that can be written is of the table, and not 0x14
 writable-away : (a : ℕ) → a < 64 → writable a ≡ true → (isTabled a ≡ true) × (eqb a resetAt ≡ false)
-unfolding rowAt rowOf paperLineOf listed refusedBits reservedAddresses
+unfolding theTable
 writable-away a h w =
     let t = alike (λ i. pick (writable i) (isTabled i) true) (λ i. true) 64 refl a h in
     let n = alike (λ i. pick (writable i) (eqb i resetAt) false) (λ i. false) 64 refl a h in
@@ -202,7 +201,7 @@ abbrev softReset : Event
 softReset = write resetAt softResetByte
 
 reset-is : (d : Device) → next d softReset ≡ withRegs powerUp (regsReset (d .regs))
-unfolding writeOf written judgement deedsOf detectorsWritten answerAt rowAt rowOf paperLineOf listed refusedBits reservedAddresses reservedCode notModelled powerUp
+unfolding writeOf written judgement deedsOf detectorsWritten answerAt theTable reservedCode notModelled powerUp
 reset-is d = refl
 
 reset-shown : (regs : List ℕ) (c : ℕ) → isIn spared c ≡ false → singleByte (withRegs powerUp (regsReset regs)) c ≡ singleByte powerUp c
@@ -211,7 +210,7 @@ reset-shown regs c n = rw (reset-byte regs enablesAt, reset-byte regs levelAt, r
 
 module _ (es : List Event) where
   reset-answered : gives (after es) softReset ≡ answer 0
-  unfolding answerAt rowAt rowOf paperLineOf listed refusedBits reservedAddresses reservedCode notModelled
+  unfolding answerAt theTable reservedCode notModelled
   reset-answered = answered es resetAt softResetByte
 
   pub reset-reads : (c : ℕ) → c < 0x3F → isIn spared c ≡ false → allGiven (after es) (softReset ∷ read c 1 ∷ []) ≡ answer 0 ∷ gives powerUp (read c 1) ∷ []

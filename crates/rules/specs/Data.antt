@@ -9,8 +9,8 @@ use Rattle.laws.specs.Choice.{pick, both, either}
 use Rattle.laws.specs.Bits.{bit, worth}
 use Rattle.events.specs.Event.{Event}
 use Rattle.events.specs.Views.{isPowerUp, atWrite, atRead, atSample}
-use Rattle.rules.specs.Stored.{isSoftReset, byteBy}
-use Rattle.rules.specs.Back.{someSince, beforeLast}
+use Rattle.paper.specs.Stored.{isSoftReset, byteBy}
+use Rattle.paper.specs.Back.{someSince, beforeLast}
 
 -- ---- events
 -- power-up or soft reset: "everything as at power-up"

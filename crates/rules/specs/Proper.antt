@@ -1,11 +1,10 @@
 -- What holds of every device that events lead to.
 use Prim.Native.Nat.{ℕ, _<_, _≤_}
-use mathlib.Core.Bool.{Bool, true, false}
-use mathlib.Core.List.{List, [], _∷_}
+use mathlib.Core.Bool.{true, false}
+use mathlib.Core.List.{List}
 use mathlib.Core.Path.{_≡_}
 use lib.ListN.{length}
-use Rattle.laws.specs.Choice.{both}
-use Rattle.codes.specs.Addresses.{controlAt, firstSpareAt, secondSpareAt}
+use Rattle.codes.specs.Addresses.{controlAt}
 use Rattle.codes.specs.Mode.{modeOf}
 use Rattle.table.specs.Rows.{rowAt, merged, writable}
 use Rattle.alarm.specs.Alarm.{Marked}
@@ -14,14 +13,6 @@ use Rattle.registers.specs.Answers.{accepted}
 use Rattle.registers.specs.Refused.{writeAnswer}
 use Rattle.device.specs.Device.{powerUp, depth, reg}
 use Rattle.device.specs.declared.Device.{Device}
-
--- a write to a of a byte, where the registers are regs, that is stored
-abbrev pub isStored : List ℕ → ℕ → ℕ → Bool
-isStored regs a byte = both (accepted (writeAnswer regs a byte)) (writable a)
-
--- the addresses that a soft reset leaves
-abbrev pub spared : List ℕ
-spared = firstSpareAt ∷ secondSpareAt ∷ []
 
 -- v is what an accepted write of some byte, where the registers hold something, leaves at a
 pub record LeftByWrite (a v : ℕ) : Type 0 where

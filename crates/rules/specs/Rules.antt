@@ -12,9 +12,9 @@ use Rattle.interrupts.specs.declared.Level.{Level}
 use Rattle.interrupts.specs.declared.Level.the-variants.{Low, High, Released}
 use Rattle.events.specs.Event.{Event, read}
 use Rattle.events.specs.Views.{isCycle}
-use Rattle.rules.specs.Stored.{byteBy}
+use Rattle.paper.specs.Stored.{byteBy}
 use Rattle.rules.specs.Bursts.{opened}
-use Rattle.rules.specs.Back.{someSince}
+use Rattle.paper.specs.Back.{someSince}
 use Rattle.rules.specs.Data.{isStart, isSample, lastSample, dataAddresses, dataBy}
 
 -- ---- what the rules of the FIFO and of any-motion say at the end of the history

@@ -15,7 +15,7 @@ use Rattle.codes.specs.Addresses.{rangeAt, framesAt, controlAt}
 use Rattle.codes.specs.Axes.{axesOf}
 use Rattle.codes.specs.Mode.{modeOf}
 use Rattle.codes.specs.Range.{rangeOf, isReservedRange}
-use Rattle.table.specs.Rows.{resetBytes, rowOf, paperLineOf, listed}
+use Rattle.table.specs.Rows.{theTable}
 use Rattle.fifo.specs.Flat.{Flat, packed}
 use Rattle.fifo.specs.Ledger.{heldOf}
 use Rattle.fifo.specs.Store.{countIn}
@@ -35,14 +35,14 @@ use Rattle.events.specs.Event.{Event, powerUp, write, read, sample, cycle, cloc
 use Rattle.events.specs.Run.{after}
 use Rattle.events.specs.Views.{atRead}
 use Rattle.events.proofs.Runs.{bank-is}
-use Rattle.history.specs.Chip.{Said, cleared, sampled, readOut, nothing, since}
-use Rattle.history.specs.Counts.{begun, heldAfter}
-use Rattle.history.specs.Demand.{fates}
+use Rattle.demand3.specs.Chip.{Said, cleared, sampled, readOut, nothing, since}
+use Rattle.demand3.specs.Counts.{begun, heldAfter}
+use Rattle.demand3.specs.Demand.{fates}
 use Rattle.history.specs.History.{accelerometer, readsOut, control, frame, setting, saysHere}
-use Rattle.history.specs.Whole.{Totals, totalled, heldNow, totals}
+use Rattle.demand3.specs.Whole.{Totals, totalled, heldNow, totals}
 use Rattle.history.proofs.Conserve.{demand3, over-clears-here, device-holds, lawful}
 use Rattle.history.proofs.Holds.{holds-after}
-use Rattle.history.proofs.Whole.{few, next-totals, next-held}
+use Rattle.demand3.proofs.Whole.{few, next-totals, next-held}
 use Rattle.counts.specs.declared.Doubt.the-variants.{No, By}
 use Rattle.counts.specs.declared.Why.the-variants as why
 use Rattle.counts.specs.Counts as counts
@@ -355,7 +355,7 @@ doubts-next es (clock us) room = refl
 
 -- ---- the account
 pub account-first : firstAccount ≡ accountOf []
-unfolding totals refusals readoutsIn doubtOf bank firstBytes resetBytes rowOf paperLineOf listed rangeOf modeOf control heldAfter since
+unfolding totals refusals readoutsIn doubtOf bank firstBytes theTable rangeOf modeOf control heldAfter since
 account-first = refl
 
 -- one event more: the account is stepped by the event, its answer, and the range, the mode and the frames held behind it

@@ -20,13 +20,13 @@ use Rattle.fifo.specs.declared.Drop.{Drop}
 use Rattle.fifo.specs.declared.Drop.the-variants.{Newcomer, Oldest}
 use Rattle.device.specs.Device.{depth}
 use Rattle.events.specs.Event.{Event}
-use Rattle.history.specs.Chip.{sampled, since}
-use Rattle.history.specs.Demand.{fates}
+use Rattle.demand3.specs.Chip.{sampled, since}
+use Rattle.demand3.specs.Demand.{fates}
 use Rattle.history.specs.History.{accelerometer, control, setting, saysHere}
-use Rattle.history.specs.Whole.{heldNow, endings, atEnds}
+use Rattle.demand3.specs.Whole.{heldNow, endings, atEnds}
 use Rattle.history.proofs.Conserve.{over-clears-here, lawful}
 use Rattle.history.proofs.Holds.{holds-after}
-use Rattle.history.proofs.Whole.{next-totals}
+use Rattle.demand3.proofs.Whole.{next-totals}
 use Rattle.counts.specs.Counts.{droppedBack}
 use Rattle.stretches.specs.Histories.{countsOf, LostAt}
 

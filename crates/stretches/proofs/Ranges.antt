@@ -15,9 +15,8 @@ use Rattle.registers.specs.Deeds.{isReset}
 use Rattle.events.specs.Bank.{bank, stored}
 use Rattle.events.specs.Event.{Event, powerUp, write, read, sample, cycle, clock}
 use Rattle.events.proofs.Runs.{bank-length}
-use Rattle.rules.specs.Proper.{isStored}
 use Rattle.rules.proofs.Registers as registers
-use Rattle.rules.proofs.Writes.{byte-written}
+use Rattle.paper.proofs.Writes.{isStored, byte-written}
 use Rattle.counts.specs.Counts.{ends}
 use Rattle.stretches.specs.Histories.{accountOf, doubtOf, whyAt, isOfRange, lastEnd}
 use Rattle.counts.specs.declared.Account.{Account}

@@ -20,7 +20,7 @@ use Rattle.events.specs.Run.{after}
 use Rattle.events.specs.Views.{isPowerUp, atWrite, atRead}
 use Rattle.fifo.specs.Ledger.{Fate, held, lost}
 use Rattle.history.specs.History.{accelerometer, readsOut, control}
-use Rattle.history.specs.Whole.{heldNow, totals}
+use Rattle.demand3.specs.Whole.{heldNow, totals}
 use Rattle.counts.specs.declared.Account.{Account}
 use Rattle.counts.specs.declared.Counts.{Counts}
 use Rattle.counts.specs.declared.Doubt.{Doubt}

@@ -59,6 +59,11 @@ rowAt a = pick (ltb a 64) (rowOf a) (record { 0 = 0; 1 = 0; 2 = 0 })
 unfoldable pub resetBytes : List ℕ
 resetBytes = upFrom (λ a. rowOf a .0) 0 64
 
+-- one name that opens all of the table, for what is proved by computation
+unfoldable pub theTable : ℕ
+unfolding listed reservedAddresses paperLineOf refusedBits rowOf rowAt resetBytes
+theTable = 0
+
 -- "A write changes masked bits only; other bits keep their reset value"
 abbrev pub merged : Row → ℕ → ℕ
 merged row byte = bitOr (bitAnd byte (row .1)) (bitAnd (row .0) (bitXor (row .1) 0xFF))

@@ -13,11 +13,11 @@ use Rattle.codes.specs.Mode.{modeOf}
 use Rattle.codes.specs.declared.Mode.{Mode}
 use Rattle.events.specs.Event.{Event, powerUp, write, read, sample, cycle, clock, happens}
 use Rattle.events.specs.Run.{after}
-use Rattle.history.specs.Chip.{sampled}
-use Rattle.history.specs.Demand.{fates}
+use Rattle.demand3.specs.Chip.{sampled}
+use Rattle.demand3.specs.Demand.{fates}
 use Rattle.history.specs.History.{accelerometer, control, setting, saysHere}
-use Rattle.history.specs.Whole.{heldNow}
-use Rattle.history.proofs.Whole.{next-totals}
+use Rattle.demand3.specs.Whole.{heldNow}
+use Rattle.demand3.proofs.Whole.{next-totals}
 use Rattle.counts.specs.Counts.{less, backOf}
 use Rattle.stretches.specs.Histories.{countsOf, accountOf, LostAt}
 use Rattle.stretches.proofs.Histories.{bounded, less-is, grows}

@@ -13,7 +13,7 @@ use borrow.Author.Tests.{eqb-true}
 use Rattle.laws.specs.Choice.{pick}
 use Rattle.laws.proofs.Finite.{of-pick}
 use Rattle.events.specs.Event.{Event}
-use Rattle.history.specs.Whole.{totals}
+use Rattle.demand3.specs.Whole.{totals}
 use Rattle.counts.specs.Counts.{ends}
 use Rattle.stretches.specs.Histories.{accountOf, countsOf, refusals, readoutsIn, whyAt, lastEnd, Stretch, stretches, unended, Conserved, apart, Part, Between, Each, over, inside, together}
 use Rattle.counts.specs.declared.Account.{Account}

@@ -12,7 +12,7 @@ use Rattle.events.specs.Event.{Event, happens}
 use Rattle.events.specs.Run.{after}
 use Rattle.events.specs.Views.{atWrite, atSample}
 use Rattle.history.specs.History.{accelerometer, control}
-use Rattle.history.specs.Whole.{heldNow}
+use Rattle.demand3.specs.Whole.{heldNow}
 use Rattle.counts.specs.Counts.{differences, ends, isSameRange, isSameMode, backOf}
 use Rattle.stretches.specs.Histories.{countsOf, accountOf, whyAt, lastEnd, Stretch, stretches, unended, Between, over}
 use Rattle.counts.specs.declared.Counts.{Counts}

@@ -11,4 +11,4 @@ deeds-of-spec =
     (λ c κs. tt)
     (λ c κs. tt)
     (λ c κs. tt)
-    (λ c. simp (← c .before .before .before .before .is-reset .ensures, ← c .before .before .bit .ensures, ← c .before .both .ensures, ← c .is-restarting .ensures)))
+    (λ c. let b = c .before in let r = b .before .before in simp (← r .before .is-reset .ensures, ← r .restarts-motion .ensures, ← b .bit .ensures, ← c .both .ensures)))

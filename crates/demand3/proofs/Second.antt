@@ -18,13 +18,13 @@ use Rattle.fifo.specs.Ledger as fifo
 use Rattle.fifo.specs.declared.Drop.{Drop}
 use Rattle.fifo.specs.declared.Drop.the-variants.{Newcomer, Oldest}
 use Rattle.fifo.specs.declared.Setting.{Setting}
-use Rattle.history.specs.Chip.{Said, cleared, sampled, readOut, Chip, Twin, since}
-use Rattle.history.specs.Counts.{arrivals, heldAfter}
-use Rattle.history.specs.Demand.{fates, Demand3}
-use Rattle.history.specs.Lost.{Saw, LostBy}
-use Rattle.history.specs.Whole.{OverClears}
-use Rattle.history.proofs.Chip.{isCleared, Lawful, Follows, queueOf, conserves}
-use Rattle.history.proofs.Whole.{over-clears}
+use Rattle.demand3.specs.Chip.{Said, cleared, sampled, readOut, Chip, Twin, since}
+use Rattle.demand3.specs.Counts.{arrivals, heldAfter}
+use Rattle.demand3.specs.Demand.{fates, Demand3}
+use Rattle.demand3.specs.Lost.{Saw, LostBy}
+use Rattle.demand3.specs.Whole.{OverClears}
+use Rattle.demand3.proofs.Chip.{isCleared, Lawful, Follows, queueOf, conserves}
+use Rattle.demand3.proofs.Whole.{over-clears}
 
 -- its events: which axes a frame has and what is dropped is chosen, a sample of three numbers of 16 bits comes, bytes are read out
 pub data Toy : Type 0 where

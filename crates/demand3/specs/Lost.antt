@@ -7,7 +7,7 @@ use Rattle.fifo.specs.Ledger.{Event, sample, readout}
 use Rattle.fifo.specs.declared.Drop.{Drop}
 use Rattle.fifo.specs.declared.Drop.the-variants.{Newcomer, Oldest}
 use Rattle.fifo.specs.declared.Setting.{Setting}
-use Rattle.history.specs.Counts.{arrivals, enters, heldAfter, entered, gone}
+use Rattle.demand3.specs.Counts.{arrivals, enters, heldAfter, entered, gone}
 
 -- a sample a, accepted after `earlier`
 module _ {A : Type 0} (s : Setting) (earlier : List (Event A)) (a : A) where

@@ -17,10 +17,10 @@ use Rattle.fifo.specs.declared.Drop.{Drop}
 use Rattle.fifo.specs.declared.Drop.the-variants.{Newcomer, Oldest}
 use Rattle.fifo.specs.declared.Setting.{Setting}
 use Rattle.fifo.proofs.Conserve.{in-order}
-use Rattle.history.specs.Counts.{arrivals, enters, heldAfter, entered, gone}
-use Rattle.history.specs.Lost.{upTo, frameNumber, ReadoutReached}
-use Rattle.history.proofs.Counts.{held-counted, first-reached}
-use Rattle.history.proofs.Fates.{takes-lost, takes-taken, takes-held, enteredIn, held-entered, entered-takes, drop-takes, held-place, away-place, arrives-new, arrives-taken, arrives-lost, arrives-held, arrives-entered, arrives-older}
+use Rattle.demand3.specs.Counts.{arrivals, enters, heldAfter, entered, gone}
+use Rattle.demand3.specs.Lost.{upTo, frameNumber, ReadoutReached}
+use Rattle.demand3.proofs.Counts.{held-counted, first-reached}
+use Rattle.demand3.proofs.Fates.{takes-lost, takes-taken, takes-held, enteredIn, held-entered, entered-takes, drop-takes, held-place, away-place, arrives-new, arrives-taken, arrives-lost, arrives-held, arrives-entered, arrives-older}
 
 -- the fate of a sample a, accepted after `earlier`, when `later` has come too
 abbrev pub fate : {A : Type 0} → Setting → List (Event A) → A → List (Event A) → Option (Fate A)

@@ -19,12 +19,12 @@ use Rattle.fifo.specs.declared.Drop.the-variants.{Oldest}
 use Rattle.fifo.specs.declared.Setting.{Setting}
 use Rattle.fifo.proofs.Conserve.{InOrder, none-held, settled-none, in-order, conserved, numbers, any-lost}
 use Rattle.fifo.proofs.Meaning.{Framed, framed-empty, framed-pushed, framed-without, first-taken}
-use Rattle.history.specs.Chip.{Said, cleared, sampled, readOut, nothing, Chip, Twin, onto, since}
-use Rattle.history.specs.Counts.{begun}
-use Rattle.history.specs.Demand.{notLost, Readout, readouts, framesOf, dueBytes, fates, gave, dueStatus, Demand3}
-use Rattle.history.proofs.Counts.{begun-reached, held-counted}
-use Rattle.history.proofs.Lost.{lost-in}
-use Rattle.history.proofs.Taken.{taken-in}
+use Rattle.demand3.specs.Chip.{Said, cleared, sampled, readOut, nothing, Chip, Twin, onto, since}
+use Rattle.demand3.specs.Counts.{begun}
+use Rattle.demand3.specs.Demand.{notLost, Readout, readouts, framesOf, dueBytes, fates, gave, dueStatus, Demand3}
+use Rattle.demand3.proofs.Counts.{begun-reached, held-counted}
+use Rattle.demand3.proofs.Lost.{lost-in}
+use Rattle.demand3.proofs.Taken.{taken-in}
 
 -- ---- what is asked of a chip and of its twin
 abbrev pub isCleared : Said → Bool

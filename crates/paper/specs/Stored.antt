@@ -7,7 +7,7 @@ use Rattle.laws.specs.Choice.{pick, both}
 use Rattle.laws.specs.Lists.{isIn}
 use Rattle.events.specs.Event.{Event, powerUp, write, read, sample, cycle, clock}
 use Rattle.events.specs.Views.{isPowerUp, atWrite}
-use Rattle.rules.specs.Paper.{resetOf, masked, accepts}
+use Rattle.paper.specs.Table.{resetOf, masked, accepts}
 
 -- what is written is always a byte
 abbrev pub ByteWrites : List Event → Type 0

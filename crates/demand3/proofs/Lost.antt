@@ -15,11 +15,11 @@ use Rattle.fifo.specs.declared.Drop.{Drop}
 use Rattle.fifo.specs.declared.Drop.the-variants.{Newcomer, Oldest}
 use Rattle.fifo.specs.declared.Setting.{Setting}
 use Rattle.fifo.proofs.Conserve.{conserved}
-use Rattle.history.specs.Counts.{arrivals, heldAfter}
-use Rattle.history.specs.Lost.{upTo, Saw, LostBy}
-use Rattle.history.proofs.Counts.{held-counted}
-use Rattle.history.proofs.Fates.{passed-lost, held-lost, takes-lost, arrives-lost}
-use Rattle.history.proofs.Taken.{fate, has-fate, shut-lost, kept, taken-in}
+use Rattle.demand3.specs.Counts.{arrivals, heldAfter}
+use Rattle.demand3.specs.Lost.{upTo, Saw, LostBy}
+use Rattle.demand3.proofs.Counts.{held-counted}
+use Rattle.demand3.proofs.Fates.{passed-lost, held-lost, takes-lost, arrives-lost}
+use Rattle.demand3.proofs.Taken.{fate, has-fate, shut-lost, kept, taken-in}
 
 arrivals-append : {A : Type 0} (xs ys : List (Event A)) → arrivals (xs ++ ys) ≡ arrivals xs + arrivals ys
 arrivals-append [] ys = omega arith

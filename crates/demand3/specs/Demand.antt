@@ -13,9 +13,9 @@ use Rattle.fifo.specs.Flat.{flat}
 use Rattle.fifo.specs.Ledger as fifo
 use Rattle.fifo.specs.Ledger.{Fate, fatesBy, allOf, takenOf, heldOf, lostOf}
 use Rattle.fifo.specs.declared.Setting.{Setting}
-use Rattle.history.specs.Chip.{Said, cleared, sampled, readOut, nothing, Chip, Twin, since}
-use Rattle.history.specs.Counts.{arrivals, begun, heldAfter}
-use Rattle.history.specs.Lost.{ReadoutReached, LostBy}
+use Rattle.demand3.specs.Chip.{Said, cleared, sampled, readOut, nothing, Chip, Twin, since}
+use Rattle.demand3.specs.Counts.{arrivals, begun, heldAfter}
+use Rattle.demand3.specs.Lost.{ReadoutReached, LostBy}
 
 -- the samples that are not lost, the oldest first
 abbrev pub notLost : {A : Type 0} → List (Fate A) → List A

@@ -10,31 +10,33 @@ use borrow.Author.Tests.{eqb-true, eq-eqb, ne-eqb, eqb-false}
 use Rattle.laws.specs.Choice.{pick, both}
 use Rattle.laws.proofs.Finite.{left}
 use Rattle.codes.specs.Addresses.{resetAt}
-use Rattle.table.specs.Rows.{rowAt, rowOf, paperLineOf, listed, reservedAddresses, merged, writable}
+use Rattle.table.specs.Rows.{rowAt, merged, writable, theTable}
 use Rattle.registers.specs.Answers.{accepted}
 use Rattle.registers.specs.Refused.{writeAnswer}
 use Rattle.registers.specs.Deeds.{softResetByte, isReset}
 use Rattle.registers.proofs.Verdicts.{reset-accepted}
-use Rattle.device.specs.Device.{firstBytes, powerUp}
+use Rattle.device.specs.Device.{firstBytes}
 use Rattle.events.specs.Event.{Event, write, read, sample, cycle, clock}
 use Rattle.events.specs.Event as event
 use Rattle.events.specs.Bank.{bank, stored}
-use Rattle.events.proofs.Runs.{bank-is, bank-length}
-use Rattle.rules.specs.Paper.{resetOf, accepts}
-use Rattle.rules.specs.Stored.{ByteWrites, isSpared, none, last, lastWrite, byteLeft, byteBy}
-use Rattle.rules.specs.Proper.{isStored}
-use Rattle.rules.proofs.Paper.{reset-is, masked-is, masked-none, accepts-is}
-use Rattle.rules.proofs.Proper.{proper}
-use Rattle.rules.proofs.Writes.{byteWritten, byte-written}
+use Rattle.events.proofs.Runs.{bank-length}
+use Rattle.paper.specs.Table.{resetOf, accepts}
+use Rattle.paper.specs.Stored.{ByteWrites, isSpared, none, last, lastWrite, byteLeft, byteBy}
+use Rattle.paper.proofs.Table.{reset-is, masked-is, masked-none, accepts-is}
+use Rattle.paper.proofs.Writes.{isStored, byteWritten, byte-written, fixed-next}
 
 -- where no bit can be written, the byte is the reset byte
+fixed : (es : List Event) (a : ℕ) → writable a ≡ false → stored es a ≡ getD firstBytes a 0
+unfolding bank
+fixed [] a w = refl
+fixed (e ∷ es) a w = fixed-next (bank es) (bank-length es) e a w (fixed es a w)
+
 fixed-is : (es : List Event) (a : ℕ) → a < 64 → writable a ≡ false → stored es a ≡ resetOf a
-unfolding powerUp
-fixed-is es a h w = rw (← bank-is es) (proper es .fixed a h w ∙ reset-is a h)
+fixed-is es a h w = fixed es a w ∙ reset-is a h
 
 -- a soft reset's address has no bit that can be written, and a write to it is always accepted
 at-reset : (a byte : ℕ) → isReset a byte ≡ true → (isSpared a ≡ false) × (writable a ≡ false) × ((regs : List ℕ) → accepted (writeAnswer regs a byte) ≡ true)
-unfolding rowAt rowOf paperLineOf listed reservedAddresses
+unfolding theTable
 at-reset a byte r = rw (eqb-true a resetAt (left (eqb a resetAt) (eqb byte softResetByte) r)) (refl, refl, λ regs. reset-accepted regs byte)
 
 module _ (es : List Event) (a : ℕ) (h : a < 64) where

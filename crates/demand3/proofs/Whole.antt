@@ -15,12 +15,12 @@ use Rattle.fifo.specs.Queue.{framesReached}
 use Rattle.fifo.specs.declared.Drop.the-variants.{Oldest}
 use Rattle.fifo.specs.declared.Setting.{Setting}
 use Rattle.fifo.proofs.Conserve.{conserved, numbers}
-use Rattle.history.specs.Chip.{Said, cleared, sampled, readOut, nothing, Chip, onto, since}
-use Rattle.history.specs.Counts.{begun, heldAfter}
-use Rattle.history.specs.Demand.{fates}
-use Rattle.history.specs.Whole.{Totals, totalled, andBefore, sum, heldNow, totals, endings, atEnds, OverClears}
-use Rattle.history.proofs.Counts.{begun-reached, held-counted}
-use Rattle.history.proofs.Chip.{isCleared, Lawful}
+use Rattle.demand3.specs.Chip.{Said, cleared, sampled, readOut, nothing, Chip, onto, since}
+use Rattle.demand3.specs.Counts.{begun, heldAfter}
+use Rattle.demand3.specs.Demand.{fates}
+use Rattle.demand3.specs.Whole.{Totals, totalled, andBefore, sum, heldNow, totals, endings, atEnds, OverClears}
+use Rattle.demand3.proofs.Counts.{begun-reached, held-counted}
+use Rattle.demand3.proofs.Chip.{isCleared, Lawful}
 
 -- ---- from one clear to the next
 -- the numbers of a span: accepted, taken, held and lost

@@ -17,7 +17,7 @@ use Rattle.fifo.specs.declared.Drop.{Drop}
 use Rattle.fifo.specs.declared.Drop.the-variants.{Newcomer, Oldest}
 use Rattle.fifo.specs.declared.Setting.{Setting}
 use Rattle.fifo.proofs.Conserve.{conserved}
-use Rattle.history.specs.Counts.{begun, heldAfter}
+use Rattle.demand3.specs.Counts.{begun, heldAfter}
 
 -- ---- frames that a readout reaches
 module _ (size : ℕ) (one : 1 ≤ size) where

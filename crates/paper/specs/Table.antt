@@ -1,4 +1,4 @@
--- 01, "Register table", written down a second time, in the order and form of its text. No contract cites this: proofs/Paper holds the
+-- 01, "Register table", written down a second time, in the order and form of its text. No contract cites this: proofs/Table holds the
 -- definitions that the contracts cite against it.
 use Prim.Native.Nat.{ℕ, suc, _+_, _-_, _/_, _%_}
 use mathlib.Core.Bool.{Bool, false, not}

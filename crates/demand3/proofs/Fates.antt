@@ -15,7 +15,7 @@ use Rattle.fifo.specs.Ledger.{Fate, taken, held, lost, heldIn, passed, takes, a
 use Rattle.fifo.specs.declared.Drop.{Drop}
 use Rattle.fifo.specs.declared.Drop.the-variants.{Newcomer, Oldest}
 use Rattle.fifo.proofs.Conserve.{InOrder, settled-none}
-use Rattle.history.specs.Counts.{enters}
+use Rattle.demand3.specs.Counts.{enters}
 
 module _ {A : Type 0} (a : A) where
   -- ---- a sample passes the one that came d before it

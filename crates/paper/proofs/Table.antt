@@ -17,14 +17,14 @@ use Rattle.laws.proofs.Finite.{alike}
 use Rattle.codes.specs.Range.{rangeOf}
 use Rattle.codes.specs.Mode.{modeOf}
 use Rattle.codes.specs.Addresses.{framesAt}
-use Rattle.table.specs.Rows.{rowAt, rowOf, paperLineOf, listed, refusedBits, reservedAddresses, resetBytes, merged, writable}
+use Rattle.table.specs.Rows.{rowAt, merged, writable, theTable}
 use Rattle.registers.specs.Answers.{accepted}
 use Rattle.registers.specs.Refused.{writeAnswer, answerAt, reservedCode, notModelled, lackAt}
 use Rattle.registers.specs.declared.Answer.the-variants.{Done, ReservedCode}
 use Rattle.registers.proofs.Answers.{lack-refused}
 use Rattle.device.specs.Device.{firstBytes}
-use Rattle.rules.specs.Paper.{tableRows, rowsOf, resetOf, maskOf, byteOf, masked, isRefused2, isLacking, accepts}
-use Rattle.rules.proofs.Bits.{bit-merged}
+use Rattle.paper.specs.Table.{tableRows, rowsOf, resetOf, maskOf, byteOf, masked, isRefused2, isLacking, accepts}
+use Rattle.paper.proofs.Bits.{bit-merged}
 
 -- ---- the rows
 -- "The table has 64 rows": one of each address, and no more
@@ -37,11 +37,11 @@ unfolding tableRows
 one-row = alike rowsOf (λ a. 1) 64 refl
 
 pub reset-is : (a : ℕ) → a < 64 → getD firstBytes a 0 ≡ resetOf a
-unfolding tableRows resetOf firstBytes resetBytes rowOf paperLineOf listed reservedAddresses
+unfolding tableRows resetOf firstBytes theTable
 reset-is = alike (λ a. getD firstBytes a 0) resetOf 64 refl
 
 pub mask-is : (a : ℕ) → a < 64 → rowAt a .1 ≡ maskOf a
-unfolding tableRows maskOf rowAt rowOf paperLineOf listed reservedAddresses
+unfolding tableRows maskOf theTable
 mask-is = alike (λ a. rowAt a .1) maskOf 64 refl
 
 -- ---- the byte that is stored
@@ -51,7 +51,7 @@ byte-bits = alike (λ n. n) (λ n. byteOf (λ k. bit k n)) 256 refl
 
 -- what the row of an address that can be written has, as 01 has it
 row-reset : (a : ℕ) → a < 64 → writable a ≡ true → rowAt a .0 ≡ resetOf a
-unfolding tableRows resetOf rowAt rowOf paperLineOf listed refusedBits reservedAddresses
+unfolding tableRows resetOf theTable
 row-reset a h w =
     let e = alike (λ i. pick (writable i) (rowAt i .0) 0) (λ i. pick (writable i) (resetOf i) 0) 64 refl a h in
     rw w at e
@@ -97,7 +97,7 @@ module _ (regs : List ℕ) where
   refused2-is = everywhere (reservedCode regs) isRefused2 refl
 
   lacking-is : (a b : ℕ) → a < 64 → b < 256 → notModelled regs (rowAt a) a b ≡ isLacking a b
-  unfolding notModelled rowAt rowOf paperLineOf listed refusedBits reservedAddresses isLacking bit
+  unfolding notModelled theTable isLacking bit
   lacking-is = everywhere (λ a b. notModelled regs (rowAt a) a b) isLacking refl
 
   pub accepts-is : (a b : ℕ) → b < 256 → accepted (writeAnswer regs a b) ≡ accepts a b

@@ -7,9 +7,9 @@ use lib.ListN.{length}
 use Rattle.laws.specs.Bits.{worth}
 use Rattle.fifo.specs.Ledger.{Fate, takenOf, heldOf, lostOf}
 use Rattle.fifo.specs.declared.Setting.{Setting}
-use Rattle.history.specs.Chip.{Said, cleared, sampled, readOut, nothing, Chip, since}
-use Rattle.history.specs.Counts.{begun, heldAfter}
-use Rattle.history.specs.Demand.{fates}
+use Rattle.demand3.specs.Chip.{Said, cleared, sampled, readOut, nothing, Chip, since}
+use Rattle.demand3.specs.Counts.{begun, heldAfter}
+use Rattle.demand3.specs.Demand.{fates}
 
 -- samples accepted, taken and lost, and held when the FIFO was cleared
 pub record Totals : Type 0 where

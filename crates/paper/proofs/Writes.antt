@@ -3,7 +3,7 @@
 use Prim.Native.Nat.{ℕ, _<_}
 use mathlib.Core.Bool.{Bool, true, false}
 use mathlib.Core.Path.{_≡_, refl, _∙_}
-use mathlib.Core.List.{List}
+use mathlib.Core.List.{List, [], _∷_}
 use native.Mathlib.Omega.{arith}
 use lib.Dec.{eqb}
 use lib.ListN.{length, getD, set, length-set}
@@ -11,7 +11,7 @@ use lib.Seq.{getD-set-same, getD-set-other}
 use borrow.Author.Tests.{eqb-true, eqb-false, lt-ltb}
 use Rattle.laws.specs.Choice.{pick, both}
 use Rattle.laws.specs.Lists.{isIn}
-use Rattle.laws.proofs.Finite.{left}
+use Rattle.laws.proofs.Finite.{left, right}
 use Rattle.codes.specs.Addresses.{firstSpareAt, secondSpareAt}
 use Rattle.table.specs.Rows.{rowAt, merged, writable}
 use Rattle.registers.specs.Answers.{accepted}
@@ -23,7 +23,14 @@ use Rattle.device.specs.Write.{regsReset, storedAt}
 use Rattle.events.specs.Event.{Event, powerUp, write, read, sample, cycle, clock}
 use Rattle.events.specs.Bank.{bankNext}
 use Rattle.events.proofs.Runs.{first-length}
-use Rattle.rules.specs.Proper.{isStored, spared}
+
+-- a write to a of a byte, where the registers are regs, that is stored
+abbrev pub isStored : List ℕ → ℕ → ℕ → Bool
+isStored regs a byte = both (accepted (writeAnswer regs a byte)) (writable a)
+
+-- the addresses that a soft reset leaves
+abbrev pub spared : List ℕ
+spared = firstSpareAt ∷ secondSpareAt ∷ []
 
 getD-set : (l : List ℕ) (a v c : ℕ) → a < length l → getD (set l a v) c 0 ≡ pick (eqb c a) v (getD l c 0)
 getD-set l a v c h = go (eqb c a) refl
@@ -84,3 +91,9 @@ byte-next P regs long a (read c n) p q r = p
 byte-next P regs long a (sample x y z t) p q r = p
 byte-next P regs long a cycle p q r = p
 byte-next P regs long a (clock us) p q r = p
+
+-- where no bit can be written, the byte is as at power-up
+pub fixed-next : (regs : List ℕ) → length regs ≡ 64 → (e : Event) (a : ℕ) → writable a ≡ false → getD regs a 0 ≡ getD firstBytes a 0
+    → getD (bankNext regs e) a 0 ≡ getD firstBytes a 0
+fixed-next regs long e a w p =
+    byte-next (λ (v : ℕ). v ≡ getD firstBytes a 0) regs long a e p refl (λ byte s. cc (w, right (accepted (writeAnswer regs a byte)) (writable a) s))

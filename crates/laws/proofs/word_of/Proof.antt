@@ -1,10 +1,10 @@
 use mir.Facts.{toZ-ofZ, sfits-widen, fits-ofZ}
-use Rattle.benchlog.proofs.Signed.{masked}
-use Rattle.logwriter.proofs.code_of.Statement.{statement}
-use Rattle.logwriter.proofs.code_of.Tie as tie
+use Rattle.laws.proofs.Words.{masked}
+use Rattle.laws.proofs.word_of.Statement.{statement}
+use Rattle.laws.proofs.word_of.Tie as tie
 
-pub code-of-spec : {M : Type 1} → statement M
-code-of-spec =
+pub word-of-spec : {M : Type 1} → statement M
+word-of-spec =
     tie.close
     (tie.spec
     (λ c. rw (toZ-ofZ (c .fits .x)) (sfits-widen tt (c .fits .x)))
