@@ -32,8 +32,7 @@ use Rattle.rules.specs.Data.{isSample}
 use Rattle.rules.specs.Rules.{depthBy, dataStatus, fullStatus, watermarkStatus, ruled}
 use Rattle.paper.specs.Stored.{ByteWrites, byteBy}
 use Rattle.rules.proofs.Channels.{sample-is}
-use Rattle.rules.proofs.Pins.{data-apart}
-use Rattle.rules.proofs.Reading.{depth-is, in-order}
+use Rattle.rules.proofs.Reading.{depth-is, in-order, data-apart}
 use Rattle.rules.proofs.Registers.{registers}
 use Rattle.paper.proofs.Stored.{stored-is}
 use Rattle.demand2.specs.Demand2.{elsewhere}

@@ -17,19 +17,7 @@ use Rattle.events.specs.Event.{Event}
 use Rattle.events.specs.Run.{after}
 use Rattle.paper.specs.Stored.{ByteWrites}
 use Rattle.rules.specs.Rules.{ruled, toInt1, toInt2, someMapped, Leveled}
-use Rattle.rules.proofs.Reading.{elsewhereIn, statusesNow, byte-ruled}
-
--- the three statuses of 0x0A stand in their bits
-pub data-apart : (p q r : Bool) → let b = worth 128 p + (worth 64 q + (worth 32 r + 0)) in (bit 7 b ≡ p) × (bit 6 b ≡ q) × (bit 5 b ≡ r)
-unfolding bit
-data-apart true true true = (refl, refl, refl)
-data-apart true true false = (refl, refl, refl)
-data-apart true false true = (refl, refl, refl)
-data-apart true false false = (refl, refl, refl)
-data-apart false true true = (refl, refl, refl)
-data-apart false true false = (refl, refl, refl)
-data-apart false false true = (refl, refl, refl)
-data-apart false false false = (refl, refl, refl)
+use Rattle.rules.proofs.Reading.{elsewhereIn, statusesNow, byte-ruled, data-apart}
 
 -- each status stands in its bit
 statuses-apart : (s : Statuses) → (bit 2 (statusByte 0x09 s) ≡ s .motion) × (bit 7 (statusByte 0x0A s) ≡ s .ready) × (bit 6 (statusByte 0x0A s) ≡ s .watermark) × (bit 5 (statusByte 0x0A s) ≡ s .full)

@@ -7,6 +7,7 @@ use mathlib.Core.List.{List, [], _∷_}
 use native.Mathlib.Omega.{arith}
 use native.Mathlib.Nat.{add-zero}
 use lib.Dec.{eqb, leb}
+use lib.ListN.{getD}
 use borrow.Author.Tests.{lt-ltb, eq-eqb, ne-eqb, le-leb, leb-true}
 use Rattle.laws.specs.Choice.{pick, both}
 use Rattle.laws.specs.Bits.{bit, worth}
@@ -35,6 +36,7 @@ use Rattle.events.proofs.Runs.{bank-is}
 use Rattle.paper.specs.Stored.{ByteWrites}
 use Rattle.rules.specs.Bursts.{isBurst, singles}
 use Rattle.rules.specs.Data.{lastSample}
+use Rattle.rules.specs.Shown.{byteSeen, bitSeen}
 use Rattle.rules.specs.Rules.{Elsewhere, dataStatus, fullStatus, watermarkStatus, ruled, ruledFrom}
 use Rattle.rules.proofs.Proper.{deep, proper}
 use Rattle.paper.proofs.Stored.{stored-is}
@@ -199,3 +201,44 @@ module _ (es : List Event) where
   marks-apart =
       let a = after es .detectors .motion .alarm in
       rw (← marks-whole a (mark-small es)) (alarm.marks-apart a (mark-small es))
+
+-- ---- the same as a recorder sees it, bit by bit: whatever else the byte shows
+-- the three statuses of 0x0A stand in their bits
+pub data-apart : (p q r : Bool) → let b = worth 128 p + (worth 64 q + (worth 32 r + 0)) in (bit 7 b ≡ p) × (bit 6 b ≡ q) × (bit 5 b ≡ r)
+unfolding bit
+data-apart true true true = (refl, refl, refl)
+data-apart true true false = (refl, refl, refl)
+data-apart true false true = (refl, refl, refl)
+data-apart true false false = (refl, refl, refl)
+data-apart false true true = (refl, refl, refl)
+data-apart false true false = (refl, refl, refl)
+data-apart false false true = (refl, refl, refl)
+data-apart false false false = (refl, refl, refl)
+
+module _ (es : List Event) where
+  seen : (a v : ℕ) → gives (after es) (read a 1) ≡ bytes (v ∷ []) → byteSeen es a ≡ v
+  seen a v e = ap (λ (g : Given). getD (g .bytes) 0 0) e
+
+  -- "any-motion (0x09 bit 2)"
+  pub motion-seen : bitSeen es 0x09 2 ≡ motionStatus (after es .detectors)
+  unfolding bit
+  motion-seen = ap (bit 2) (seen 0x09 (worth 4 (motionStatus (after es .detectors))) (reads-motion es)) ∙ alone (motionStatus (after es .detectors))
+    where
+      alone : (m : Bool) → bit 2 (worth 4 m) ≡ m
+      alone true = refl
+      alone false = refl
+
+  -- "data (0x0A bit 7)", "watermark (0x0A bit 6)", "full (0x0A bit 5)"
+  pub interrupts-seen : ByteWrites es → let w = elsewhereIn (after es) in (bitSeen es 0x0A 7 ≡ dataStatus w es) × (bitSeen es 0x0A 6 ≡ watermarkStatus w es) × (bitSeen es 0x0A 5 ≡ fullStatus w es)
+  interrupts-seen b =
+      let w = elsewhereIn (after es) in
+      rw (seen 0x0A _ (reads-interrupts es b), ← in-order (worth 128 (dataStatus w es)) (worth 64 (watermarkStatus w es)) (worth 32 (fullStatus w es)))
+      (data-apart (dataStatus w es) (watermarkStatus w es) (fullStatus w es))
+
+  -- "0x0B bits 2:0 (z, y, x) mark the first over axis .., and bit 3 is 1 for a negative difference"
+  pub marks-seen : let a = after es .detectors .motion .alarm in (bitSeen es 0x0B 3 ≡ a .negative) × (byteSeen es 0x0B % 8 ≡ a .mark)
+  unfolding ruled
+  marks-seen =
+      let v = seen 0x0B _ (reads-marks es .0) in
+      let m = marks-apart es in
+      (rw v (m .0), rw v (m .1))

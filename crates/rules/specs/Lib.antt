@@ -1,4 +1,5 @@
 pub mod Bursts
 pub mod Data
+pub mod Shown
 pub mod Rules
 pub mod Proper
