@@ -2,42 +2,53 @@
 -- Assumes nothing.
 use Prim.Native.Nat.{ℕ, _≤_}
 use mathlib.Core.Bool.{true, false}
-use mathlib.Core.List.{List}
-use mathlib.Core.Path.{_≡_, subst, _∙_}
+use mathlib.Core.List.{List, [], _∷_}
+use mathlib.Core.Path.{_≡_, sym, ap, subst, _∙_}
 use native.Mathlib.Omega.{arith}
 use lib.Dec.{eqb, ltb}
+use lib.ListN.{getD}
 use borrow.Author.Tests.{le-ltb, ne-eqb}
 use Rattle.laws.specs.Bits.{bit}
 use Rattle.laws.specs.Bytes.{firstOrZeros}
 use Rattle.laws.proofs.Bytes.{length-zeros}
 use Rattle.fifo.specs.Flat.{flat, packed}
 use Rattle.fifo.specs.Ledger.{heldOf}
+use Rattle.interrupts.specs.Statuses.{statusesOf}
+use Rattle.detectors.specs.Detectors.{motionMarks}
 use Rattle.registers.specs.Answers.{accepted}
 use Rattle.registers.specs.Refused.{readAnswer}
-use Rattle.device.specs.Read.{readOf, burstBytes, bufferAfter}
-use Rattle.device.specs.Show.{pinsOf}
-use Rattle.events.specs.Event.{Event, read, bytes, gives}
+use Rattle.device.specs.Read.{byteFrom, readOf, burstBytes, bufferAfter}
+use Rattle.device.specs.Show.{shownByte, pinsOf}
+use Rattle.events.specs.Event.{Event, read, Given, bytes, gives}
 use Rattle.events.specs.Run.{after}
 use Rattle.demand3.specs.Chip.{readOut}
 use Rattle.demand3.specs.Demand.{fates}
 use Rattle.history.specs.History.{accelerometer, readsOut, saysHere, twin}
 use Rattle.history.proofs.Conserve.{demand3, device-holds}
+use Rattle.anymotion.specs.Marks.{marksByte}
 use Rattle.anymotion.proofs.Detector.{detector-is}
-use Rattle.rules.specs.Rules.{Elsewhere, ruled, toInt1, toInt2, someMapped, Leveled}
+use Rattle.anymotion.proofs.Promise.{reads-marks}
+use Rattle.rules.specs.Rules.{status, Elsewhere, ruled, maps, toInt1, toInt2, isOne, someMapped, Leveled}
 use Rattle.paper.specs.Stored.{ByteWrites}
-use Rattle.rules.proofs.Reading.{elsewhereIn, reads}
+use Rattle.rules.proofs.Bursts.{single}
+use Rattle.rules.proofs.Shown.{elsewhereIn}
+use Rattle.rules.proofs.Reading.{reads}
 use Rattle.rules.proofs.Pins.{pins}
 use Rattle.demand2.specs.Demand2.{elsewhere, Demand2}
 
--- ---- what the device shows of the FIFO and of any-motion is what the events tell
+-- ---- what the device shows of the FIFO and of its detectors is what the events tell
+-- the byte of 0x0B
+marks-are : (es : List Event) → motionMarks (after es .detectors) ≡ marksByte es
+unfolding byteFrom shownByte
+marks-are es = ap (λ (g : Given). getD (g .bytes) 0 0) (sym (single (after es) 0x0B (omega arith)) ∙ reads-marks es)
+
 pub elsewhere-is : (es : List Event) → elsewhereIn (after es) ≡ elsewhere es
-unfolding elsewhere packed
+unfolding elsewhere packed statusesOf
 elsewhere-is es = λ i. record {
   count = device-holds es i .count;
   overrun = device-holds es i .overrun;
-  moved = detector-is es i .alarm .status;
-  mark = detector-is es i .alarm .mark;
-  negative = detector-is es i .alarm .negative;
+  statuses = status 0x09 2 (detector-is es i .alarm .status) ∷ [];
+  marks = record { address = 0x0B; byte = marks-are es i } ∷ [];
 }
 
 -- ---- a readout
@@ -72,8 +83,8 @@ module _ (es : List Event) (n : ℕ) (some : 1 ≤ n) (few : n ≤ 192) where
 pub demand2 : (es : List Event) → ByteWrites es → Demand2 es
 demand2 es b =
     let p = subst (λ (w : Elsewhere). let r = ruled w es in
-    Leveled (someMapped r toInt1) (bit 0 (r 0x20)) (bit 1 (r 0x20)) (pinsOf (after es) .int1)
-    × Leveled (someMapped r toInt2) (bit 2 (r 0x20)) (bit 3 (r 0x20)) (pinsOf (after es) .int2)) (elsewhere-is es) (pins es b) in
+    Leveled (someMapped (isOne r) toInt1 maps) (bit 0 (r 0x20)) (bit 1 (r 0x20)) (pinsOf (after es) .int1)
+    × Leveled (someMapped (isOne r) toInt2 maps) (bit 2 (r 0x20)) (bit 3 (r 0x20)) (pinsOf (after es) .int2)) (elsewhere-is es) (pins es b) in
     record {
       below = λ a n h. reads es b a n h ∙ rw (elsewhere-is es);
       frames = λ n some few. readout es n some few;

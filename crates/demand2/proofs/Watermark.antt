@@ -7,7 +7,6 @@ use mathlib.Core.Logic.{_↔_}
 use mathlib.Core.Path.{_≡_, refl, sym, ap, _∙_}
 use native.Mathlib.Omega.{arith}
 use lib.Dec.{eqb, leb}
-use lib.ListN.{getD}
 use borrow.Author.Tests.{leb-true, le-leb, eqb-true, eq-eqb}
 use Rattle.laws.specs.Bits.{bit, worth}
 use Rattle.laws.specs.Choice.{pick, both}
@@ -20,7 +19,7 @@ use Rattle.fifo.specs.declared.Setting.{Setting}
 use Rattle.registers.specs.Answers.{accepted}
 use Rattle.registers.specs.Deeds.{clears}
 use Rattle.device.specs.Sample.{sampleAnswer}
-use Rattle.events.specs.Event.{Event, powerUp, write, read, sample, cycle, clock, Given}
+use Rattle.events.specs.Event.{Event, powerUp, write, read, sample, cycle, clock}
 use Rattle.demand3.specs.Chip.{Said, sampled, readOut, nothing, onto, since}
 use Rattle.demand3.specs.Counts.{begun, heldAfter}
 use Rattle.history.specs.History.{accelerometer, readsOut, control, setting, frame, saysHere}
@@ -29,15 +28,15 @@ use Rattle.history.proofs.Conserve.{demand3, lawful, over-clears-here}
 use Rattle.history.proofs.Holds.{holds-after}
 use Rattle.demand3.proofs.Whole.{next-held}
 use Rattle.rules.specs.Data.{isSample}
-use Rattle.rules.specs.Rules.{depthBy, dataStatus, fullStatus, watermarkStatus, ruled}
+use Rattle.rules.specs.Rules.{depthBy, watermarkStatus}
 use Rattle.paper.specs.Stored.{ByteWrites, byteBy}
 use Rattle.rules.proofs.Channels.{sample-is}
-use Rattle.rules.proofs.Reading.{depth-is, in-order, data-apart}
+use Rattle.rules.proofs.Reading.{depth-is, interrupts-seen}
 use Rattle.rules.proofs.Registers.{registers}
 use Rattle.paper.proofs.Stored.{stored-is}
 use Rattle.demand2.specs.Demand2.{elsewhere}
 use Rattle.demand2.specs.Watermark.{watermarkBit, level, frameCount, frameSize, Reaches, setUpAt, goesOn, goOn, arrived, framesAskedBy, framesAsked, Watermark}
-use Rattle.demand2.proofs.Demand2.{demand2, out}
+use Rattle.demand2.proofs.Demand2.{elsewhere-is, out}
 
 -- ---- tests and what they say
 tests : (enable : Bool) (level most many : ℕ)
@@ -58,12 +57,7 @@ not-seen false h = refl
 -- ---- after any events
 module _ (es : List Event) (b : ByteWrites es) where
   seen-is : watermarkBit es ≡ watermarkStatus (elsewhere es) es
-  unfolding ruled
-  seen-is =
-      let w = elsewhere es in
-      ap (λ (g : Given). bit 6 (getD (g .bytes) 0 0)) (demand2 es b .below 0x0A 1 refl)
-      ∙ ap (bit 6) (sym (in-order (worth 128 (dataStatus w es)) (worth 64 (watermarkStatus w es)) (worth 32 (fullStatus w es))))
-      ∙ data-apart (dataStatus w es) (watermarkStatus w es) (fullStatus w es) .1
+  seen-is = interrupts-seen es b .1 ∙ rw (elsewhere-is es)
 
   reached-here : (watermarkBit es ≡ true) ↔ Reaches es 32 (frameCount es)
   unfolding elsewhere

@@ -2,13 +2,12 @@
 -- power-up, every accepted read of any length gives what the rules say, and so do the pins; and no rule asks a device.
 use Prim.Native.Nat.{ℕ, _≤_}
 use mathlib.Core.Bool.{true}
-use mathlib.Core.List.{List}
+use mathlib.Core.List.{List, [], _∷_}
 use mathlib.Core.Path.{_≡_}
 use lib.Dec.{ltb}
 use lib.ListN.{length}
 use Rattle.laws.specs.Bits.{bit}
 use Rattle.laws.specs.Bytes.{firstOrZeros}
-use Rattle.laws.specs.Choice.{pick}
 use Rattle.fifo.specs.Flat.{flat}
 use Rattle.fifo.specs.Ledger.{heldOf, lostOf}
 use Rattle.device.specs.Show.{pinsOf}
@@ -17,22 +16,24 @@ use Rattle.events.specs.Run.{after}
 use Rattle.demand3.specs.Demand.{fates}
 use Rattle.history.specs.History.{accelerometer}
 use Rattle.anymotion.specs.Status.{isSet}
-use Rattle.anymotion.specs.Marks.{markOf, signOf, markedAxes}
+use Rattle.anymotion.specs.Marks.{marksByte}
 use Rattle.rules.specs.Bursts.{isBurst}
-use Rattle.rules.specs.Rules.{Elsewhere, ruled, ruledFrom, toInt1, toInt2, someMapped, Leveled}
+use Rattle.rules.specs.Rules.{status, Elsewhere, ruled, ruledFrom, maps, toInt1, toInt2, isOne, someMapped, Leveled}
 
--- what the FIFO and any-motion show at the end of a history, from its events alone: the held and the lost are demand 3's, the status,
--- the mark and the sign are told by looking back on the points
+-- what the FIFO and the detectors show at the end of a history, from its events alone: the held and the lost are demand 3's, statuses and
+-- marks are told by looking back on the points
 unfoldable pub elsewhere : List Event → Elsewhere
 elsewhere es = record {
   -- "the frame count is the number still held"
   count = length (heldOf (fates accelerometer es));
   -- "The overrun bit is 1 exactly when some sample is lost"
   overrun = ltb 0 (length (lostOf (fates accelerometer es)));
-  moved = isSet es;
-  -- "The marks clear with the status; bit 3 stays"
-  mark = pick (isSet es) (markOf (markedAxes es)) 0;
-  negative = signOf (markedAxes es);
+  statuses =
+      -- "any-motion (0x09 bit 2)"
+      status 0x09 2 (isSet es) ∷ [];
+  marks =
+      -- "0x0B bits 2:0 (z, y, x) mark the first over axis .., and bit 3 is 1 for a negative difference"
+      record { address = 0x0B; byte = marksByte es } ∷ [];
 }
 
 -- the byte that an address below 0x3F reads, after a history
@@ -46,5 +47,5 @@ pub record Demand2 (es : List Event) : Type 0 where
   -- "A read at 0x3F stays there and gives frames oldest first .. Past the last frame it gives zeros"
   pub frames : (n : ℕ) → 1 ≤ n → n ≤ 192 → gives (after es) (read 0x3F n) ≡ bytes (firstOrZeros n (flat (heldOf (fates accelerometer es))))
   -- "0x20 bits 0 and 2 give the active level of INT1 and INT2; bits 1 and 3 choose open-drive"
-  pub int1 : Leveled (someMapped (byteRead es) toInt1) (bit 0 (byteRead es 0x20)) (bit 1 (byteRead es 0x20)) (pinsOf (after es) .int1)
-  pub int2 : Leveled (someMapped (byteRead es) toInt2) (bit 2 (byteRead es 0x20)) (bit 3 (byteRead es 0x20)) (pinsOf (after es) .int2)
+  pub int1 : Leveled (someMapped (isOne (byteRead es)) toInt1 maps) (bit 0 (byteRead es 0x20)) (bit 1 (byteRead es 0x20)) (pinsOf (after es) .int1)
+  pub int2 : Leveled (someMapped (isOne (byteRead es)) toInt2 maps) (bit 2 (byteRead es 0x20)) (bit 3 (byteRead es 0x20)) (pinsOf (after es) .int2)

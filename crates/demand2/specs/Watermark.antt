@@ -6,25 +6,25 @@ use mathlib.Core.Bool.{Bool, true, false, not}
 use mathlib.Core.List.{List, [], _∷_, _++_}
 use mathlib.Core.Logic.{_↔_}
 use mathlib.Core.Path.{_≡_}
-use lib.ListN.{length, getD}
+use lib.ListN.{length}
 use Rattle.laws.specs.Bits.{bit, worth}
 use Rattle.laws.specs.Choice.{pick, both, either}
 use Rattle.laws.specs.Lists.{isIn}
 use Rattle.fifo.specs.Ledger.{heldOf}
-use Rattle.events.specs.Event.{Event, read, gives}
-use Rattle.events.specs.Run.{after}
+use Rattle.events.specs.Event.{Event, read}
 use Rattle.events.specs.Views.{isPowerUp, atWrite, atRead}
 use Rattle.demand3.specs.Counts.{begun}
 use Rattle.demand3.specs.Demand.{fates}
 use Rattle.history.specs.History.{accelerometer, readsOut, setting}
 use Rattle.rules.specs.Data.{isSample}
+use Rattle.rules.specs.Shown.{bitSeen}
 use Rattle.rules.specs.Rules.{depthBy}
 use Rattle.paper.specs.Stored.{ByteWrites, byteBy}
 
 -- ---- after a history
--- what a recorder sees: bit 6 of the byte that a read of 0x0A gives
+-- what a recorder sees: "watermark (0x0A bit 6)"
 abbrev pub watermarkBit : List Event → Bool
-watermarkBit es = bit 6 (getD (gives (after es) (read 0x0A 1) .bytes) 0 0)
+watermarkBit es = bitSeen es 0x0A 6
 
 -- "the level in 0x30"
 abbrev pub level : List Event → ℕ

@@ -4,6 +4,8 @@ pub mod Bursts
 pub mod Channels
 pub mod Data
 pub mod Past
+pub mod Worths
+pub mod Shown
 pub mod Registers
 pub mod Reading
 pub mod Pins

@@ -1,32 +1,56 @@
 -- Demand 2: after any events from power-up on, both pins are as the rules of 01 say, of the bytes that are read.
 -- Assumes nothing.
-use Prim.Native.Nat.{ℕ, _+_}
+use Prim.Native.Nat.{ℕ, _<_}
 use mathlib.Core.Bool.{Bool, true, false}
-use mathlib.Core.Path.{_≡_, refl}
-use mathlib.Core.List.{List}
+use mathlib.Core.Path.{_≡_, refl, sym, ap, _∙_}
+use mathlib.Core.List.{List, [], _∷_}
 use native.Mathlib.Omega.{arith}
-use Rattle.laws.specs.Bits.{bit, worth}
-use Rattle.interrupts.specs.Maps.{statusByte, isActive}
+use lib.Dec.{ltb}
+use lib.ListN.{getD}
+use borrow.Author.Tests.{ltb-true}
+use Rattle.laws.specs.Choice.{pick, both, either}
+use Rattle.laws.specs.Lists.{isIn}
+use Rattle.laws.specs.Bits.{bit}
+use Rattle.laws.proofs.Finite.{left, right}
+use Rattle.interrupts.specs.Maps.{allStatuses, isActive}
 use Rattle.interrupts.specs.Pins.{levelOf, pinLevel}
 use Rattle.interrupts.specs.declared.Statuses.{Statuses}
 use Rattle.interrupts.specs.declared.Pin.the-variants.{Int1, Int2}
 use Rattle.device.specs.Device.{reg}
-use Rattle.device.specs.Show.{shownByte, pinsOf}
-use Rattle.device.specs.Read.{byteFrom}
+use Rattle.device.specs.Show.{pinsOf}
 use Rattle.events.specs.Event.{Event}
 use Rattle.events.specs.Run.{after}
 use Rattle.paper.specs.Stored.{ByteWrites}
-use Rattle.rules.specs.Rules.{ruled, toInt1, toInt2, someMapped, Leveled}
-use Rattle.rules.proofs.Reading.{elsewhereIn, statusesNow, byte-ruled, data-apart}
+use Rattle.rules.specs.Shown.{bitSeen}
+use Rattle.rules.specs.Rules.{Place, statusAddresses, ruled, isTabled, Mapped, maps, toInt1, toInt2, isOne, someMapped, Leveled}
+use Rattle.rules.proofs.Worths.{holdsAt}
+use Rattle.rules.proofs.Shown.{shownIn, elsewhereIn}
+use Rattle.rules.proofs.Reading.{statusesNow, byte-seen, tabled-seen, status-seen}
 
--- each status stands in its bit
-statuses-apart : (s : Statuses) → (bit 2 (statusByte 0x09 s) ≡ s .motion) × (bit 7 (statusByte 0x0A s) ≡ s .ready) × (bit 6 (statusByte 0x0A s) ≡ s .watermark) × (bit 5 (statusByte 0x0A s) ≡ s .full)
-unfolding bit statusByte
-statuses-apart s = let t = data-apart (s .ready) (s .watermark) (s .full) in (alone (s .motion), t .0, t .1, t .2)
-  where
-    alone : (m : Bool) → bit 2 (worth 4 m + 0) ≡ m
-    alone true = refl
-    alone false = refl
+-- ---- what the maps name
+-- a place that the maps name shows a status, or is of the register table
+abbrev isNamed : Place → Bool
+isNamed p = both (ltb (p .address) 0x3F) (either (isIn statusAddresses (p .address)) (isTabled (p .address)))
+
+abbrev areNamed : (Mapped → Place) → List Mapped → Bool
+areNamed pin [] = true
+areNamed pin (m ∷ ms) = both (isNamed (m .shown)) (both (isNamed (pin m)) (areNamed pin ms))
+
+-- two ways to tell which bits are 1 make the same pins active, where they agree at such places
+module _ (one other : Place → Bool) (same : (p : Place) → isNamed p ≡ true → one p ≡ other p) (pin : Mapped → Place) where
+  same-mapped : (ms : List Mapped) → areNamed pin ms ≡ true → someMapped one pin ms ≡ someMapped other pin ms
+  same-mapped [] n = refl
+  same-mapped (m ∷ ms) n =
+      let later = right (isNamed (m .shown)) (both (isNamed (pin m)) (areNamed pin ms)) n in
+      rw (
+        same (m .shown) (left (isNamed (m .shown)) (both (isNamed (pin m)) (areNamed pin ms)) n),
+        same (pin m) (left (isNamed (pin m)) (areNamed pin ms) later),
+        same-mapped ms (right (isNamed (pin m)) (areNamed pin ms) later),
+      )
+
+-- as the code tells it, of its statuses and the registers
+abbrev isOneIn : Statuses → List ℕ → Place → Bool
+isOneIn s regs p = pick (isIn statusAddresses (p .address)) (holdsAt (p .address) (p .number) (shownIn s allStatuses)) (bit (p .number) (getD regs (p .address) 0))
 
 leveled : (active high opendrive : Bool) → Leveled active high opendrive (levelOf active high opendrive)
 leveled active high opendrive = record {
@@ -42,28 +66,34 @@ module _ (es : List Event) (b : ByteWrites es) where
   abbrev r : ℕ → ℕ
   r = ruled (elsewhereIn (after es)) es
 
-  active-1 : isActive Int1 (statusesNow es) (after es .regs) ≡ someMapped (ruled (elsewhereIn (after es)) es) toInt1
-  unfolding isActive byteFrom shownByte
-  active-1 =
-      let s = statuses-apart (statusesNow es) in
-      rw (← byte-ruled es b 0x09 (omega arith), ← byte-ruled es b 0x0A (omega arith), ← byte-ruled es b 0x19 (omega arith), ← byte-ruled es b 0x1A (omega arith), s .0, s .1, s .2, s .3)
+  one-is : (p : Place) → isNamed p ≡ true → isOneIn (statusesNow es) (after es .regs) p ≡ isOne r p
+  one-is p n =
+      let of = either (isIn statusAddresses (p .address)) (isTabled (p .address)) in
+      let h = ltb-true (p .address) 0x3F (left (ltb (p .address) 0x3F) of n) in
+      go h (isIn statusAddresses (p .address)) refl (right (ltb (p .address) 0x3F) of n) ∙ ap (bit (p .number)) (byte-seen es b (p .address) h)
+    where
+      go : p .address < 0x3F → (t : Bool) → isIn statusAddresses (p .address) ≡ t → either t (isTabled (p .address)) ≡ true
+          → pick t (holdsAt (p .address) (p .number) (shownIn (statusesNow es) allStatuses)) (bit (p .number) (reg (after es) (p .address))) ≡ bitSeen es (p .address) (p .number)
+      go h true m e = sym (status-seen es (p .address) m (p .number))
+      go h false m e = ap (bit (p .number)) (sym (tabled-seen es (p .address) h e))
 
-  active-2 : isActive Int2 (statusesNow es) (after es .regs) ≡ someMapped (ruled (elsewhereIn (after es)) es) toInt2
-  unfolding isActive byteFrom shownByte
-  active-2 =
-      let s = statuses-apart (statusesNow es) in
-      rw (← byte-ruled es b 0x09 (omega arith), ← byte-ruled es b 0x0A (omega arith), ← byte-ruled es b 0x1B (omega arith), ← byte-ruled es b 0x1A (omega arith), s .0, s .1, s .2, s .3)
+  active-1 : isActive Int1 (statusesNow es) (after es .regs) ≡ someMapped (isOne (ruled (elsewhereIn (after es)) es)) toInt1 maps
+  unfolding isActive
+  active-1 = same-mapped (isOneIn (statusesNow es) (after es .regs)) (isOne (ruled (elsewhereIn (after es)) es)) one-is toInt1 maps refl
+
+  active-2 : isActive Int2 (statusesNow es) (after es .regs) ≡ someMapped (isOne (ruled (elsewhereIn (after es)) es)) toInt2 maps
+  unfolding isActive
+  active-2 = same-mapped (isOneIn (statusesNow es) (after es .regs)) (isOne (ruled (elsewhereIn (after es)) es)) one-is toInt2 maps refl
 
   drive-is : reg (after es) 0x20 ≡ ruled (elsewhereIn (after es)) es 0x20
-  unfolding byteFrom shownByte
-  drive-is = byte-ruled es b 0x20 (omega arith)
+  drive-is = sym (tabled-seen es 0x20 (omega arith) refl) ∙ byte-seen es b 0x20 (omega arith)
 
   pub pins : let r = ruled (elsewhereIn (after es)) es in
-      Leveled (someMapped r toInt1) (bit 0 (r 0x20)) (bit 1 (r 0x20)) (pinsOf (after es) .int1)
-      × Leveled (someMapped r toInt2) (bit 2 (r 0x20)) (bit 3 (r 0x20)) (pinsOf (after es) .int2)
+      Leveled (someMapped (isOne r) toInt1 maps) (bit 0 (r 0x20)) (bit 1 (r 0x20)) (pinsOf (after es) .int1)
+      × Leveled (someMapped (isOne r) toInt2 maps) (bit 2 (r 0x20)) (bit 3 (r 0x20)) (pinsOf (after es) .int2)
   unfolding pinsOf pinLevel
   pins =
       let r = ruled (elsewhereIn (after es)) es in (
-        rw (active-1, drive-is) (leveled (someMapped r toInt1) (bit 0 (r 0x20)) (bit 1 (r 0x20))),
-        rw (active-2, drive-is) (leveled (someMapped r toInt2) (bit 2 (r 0x20)) (bit 3 (r 0x20))),
+        rw (active-1, drive-is) (leveled (someMapped (isOne r) toInt1 maps) (bit 0 (r 0x20)) (bit 1 (r 0x20))),
+        rw (active-2, drive-is) (leveled (someMapped (isOne r) toInt2 maps) (bit 2 (r 0x20)) (bit 3 (r 0x20))),
       )

@@ -8,9 +8,11 @@ use native.Mathlib.Omega.{arith}
 use native.Mathlib.Nat.{add-zero}
 use lib.Dec.{eqb, leb}
 use lib.ListN.{getD}
-use borrow.Author.Tests.{lt-ltb, eq-eqb, ne-eqb, le-leb, leb-true}
+use borrow.Author.Tests.{eq-eqb, ne-eqb, le-leb, leb-true}
 use Rattle.laws.specs.Choice.{pick, both}
+use Rattle.laws.specs.Lists.{isIn}
 use Rattle.laws.specs.Bits.{bit, worth}
+use Rattle.laws.proofs.Finite.{at-any}
 use Rattle.codes.specs.Addresses.{enablesAt, levelAt, controlAt}
 use Rattle.codes.specs.Mode.{modeOf, isReservedMode}
 use Rattle.codes.specs.declared.Mode.the-variants.{Bypass, Fifo, Stream, Reserved}
@@ -22,7 +24,7 @@ use Rattle.alarm.specs.Alarm.{Marked}
 use Rattle.alarm.proofs.Laws.{marked-small, marks-whole}
 use Rattle.alarm.proofs.Laws as alarm
 use Rattle.interrupts.specs.Statuses.{reached, statusesOf}
-use Rattle.interrupts.specs.Maps.{statusByte}
+use Rattle.interrupts.specs.Maps.{allStatuses, statusByte}
 use Rattle.interrupts.specs.declared.Statuses.{Statuses}
 use Rattle.detectors.specs.Detectors.{motionStatus}
 use Rattle.device.specs.Device.{depth, reg}
@@ -37,23 +39,15 @@ use Rattle.paper.specs.Stored.{ByteWrites}
 use Rattle.rules.specs.Bursts.{isBurst, singles}
 use Rattle.rules.specs.Data.{lastSample}
 use Rattle.rules.specs.Shown.{byteSeen, bitSeen}
-use Rattle.rules.specs.Rules.{Elsewhere, dataStatus, fullStatus, watermarkStatus, ruled, ruledFrom}
+use Rattle.rules.specs.Rules.{Elsewhere, worthsAt, statusAddresses, dataStatus, fullStatus, watermarkStatus, statusesBy, ruled, ruledFrom, isTabled}
 use Rattle.rules.proofs.Proper.{deep, proper}
 use Rattle.paper.proofs.Stored.{stored-is}
 use Rattle.rules.proofs.Bursts.{burst-bounds, single, single-next, burst-gives}
 use Rattle.rules.proofs.Data.{data-is}
 use Rattle.rules.proofs.Past.{temperature-is, came-is}
-use Rattle.rules.proofs.Registers.{data-address, mode-known}
-
--- what a device holds of the FIFO and of any-motion
-abbrev pub elsewhereIn : Device → Elsewhere
-elsewhereIn d = record {
-  count = d .fifo .count;
-  overrun = d .fifo .overrun;
-  moved = motionStatus (d .detectors);
-  mark = d .detectors .motion .alarm .mark;
-  negative = d .detectors .motion .alarm .negative;
-}
+use Rattle.rules.proofs.Worths.{holdsAt, bit-is}
+use Rattle.rules.proofs.Shown.{shownIn, byte-worth, elsewhereIn, single-is, tabled-byte}
+use Rattle.rules.proofs.Registers.{mode-known}
 
 -- "Depth is 32 in FIFO and STREAM, 1 in BYPASS"
 pub depth-is : (b : ℕ) → isReservedMode (modeOf b) ≡ false → depthIn depth (modeOf b) ≡ pick (eqb (b / 64) 0b00) 1 32
@@ -82,9 +76,6 @@ reached-is count depth level few most = go (leb level count) refl
         rw (le-leb level depth (omega arith), le-leb level 32 (omega arith))
     go false e = ends-false (leb 1 level) (leb level depth) ∙ sym (ends-false (leb 1 level) (leb level 32))
 
-pub in-order : (p q r : ℕ) → p + (q + (r + 0)) ≡ p + q + r
-in-order p q r = omega arith
-
 module _ (es : List Event) where
   abbrev d : Device
   d = after es
@@ -110,32 +101,19 @@ module _ (es : List Event) where
   abbrev pub statusesNow : Statuses
   statusesNow = statusesIn (after es .regs) (insideOf (after es))
 
-  motion-byte : statusByte 0x09 statusesNow ≡ worth 4 (w .moved)
-  unfolding statusByte statusesOf
-  motion-byte = rw add-zero
-
   module _ (b : ByteWrites es) where
-    data-byte : statusByte 0x0A statusesNow ≡ worth 128 (dataStatus w es) + worth 64 (watermarkStatus w es) + worth 32 (fullStatus w es)
-    unfolding statusByte statusesOf
-    data-byte =
+    -- one by one they are those of the rules
+    pub statuses-are : shownIn statusesNow allStatuses ≡ statusesBy w es
+    unfolding statusesOf
+    statuses-are =
         rw (few-held, reached-here, came-is es, bank-is es, depth-is (stored es controlAt) (mode-known es), stored-is es b enablesAt (omega arith), stored-is es b levelAt (omega arith), stored-is es b controlAt (omega arith))
-        (in-order (worth 128 (dataStatus w es)) (worth 64 (watermarkStatus w es)) (worth 32 (fullStatus w es)))
+
+    status-byte : (a : ℕ) → statusByte a statusesNow ≡ worthsAt a (statusesBy w es)
+    status-byte a = byte-worth a statusesNow ∙ ap (worthsAt a) statuses-are
 
     pub byte-ruled : (a : ℕ) → a < 64 → singleByte (after es) a ≡ ruled (elsewhereIn (after es)) es a
-    unfolding byteFrom shownByte ruled
-    byte-ruled a h =
-        rw (
-          data-address a h,
-          data-is es b a,
-          temperature-is es,
-          motion-byte,
-          data-byte,
-          marks-whole (d .detectors .motion .alarm) mark-small,
-          few-held,
-          lt-ltb a 64 h,
-          bank-is es,
-          stored-is es b a h,
-        )
+    unfolding ruled
+    byte-ruled a h = single-is (after es) a h ∙ rw (data-is es b a, temperature-is es, status-byte a, few-held, ← stored-is es b a h, ← bank-is es)
 
 -- ---- any length
 -- a read below 0x3F moves the channels alone
@@ -168,13 +146,8 @@ module _ (es : List Event) where
 
   -- "any-motion (0x09 bit 2)"
   pub reads-motion : gives (after es) (read 0x09 1) ≡ bytes (worth 4 (motionStatus (after es .detectors)) ∷ [])
-  unfolding byteFrom shownByte
-  reads-motion = single (after es) 0x09 (omega arith) ∙ rw (motion-byte es)
-
-  -- "data (0x0A bit 7)", "watermark (0x0A bit 6)", "full (0x0A bit 5)"
-  pub reads-interrupts : ByteWrites es → let w = elsewhereIn (after es) in gives (after es) (read 0x0A 1) ≡ bytes ((worth 128 (dataStatus w es) + worth 64 (watermarkStatus w es) + worth 32 (fullStatus w es)) ∷ [])
-  unfolding byteFrom shownByte
-  reads-interrupts b = single (after es) 0x0A (omega arith) ∙ rw (data-byte es b)
+  unfolding byteFrom shownByte statusByte statusesOf
+  reads-motion = single (after es) 0x09 (omega arith) ∙ rw add-zero
 
   -- "0x0B bits 2:0 (z, y, x) mark the first over axis .., and bit 3 is 1 for a negative difference": the mark is 1, 2 or 4 while the
   -- status is set, and 0 else
@@ -196,49 +169,44 @@ module _ (es : List Event) where
       go true c h = (eq-eqb ((128 + c) / 2 ^ 7 % 2) 1 (omega arith), omega arith)
       go false c h = (ne-eqb ((0 + c) / 2 ^ 7 % 2) 1 (omega arith), omega arith)
 
-  pub marks-apart : let v = ruled (elsewhereIn (after es)) es 0x0B in let a = after es .detectors .motion .alarm in (bit 3 v ≡ a .negative) × (v % 8 ≡ a .mark) × (v < 16)
-  unfolding ruled
+  pub marks-apart : let a = after es .detectors .motion .alarm in let v = a .mark + worth 8 (a .negative) in (bit 3 v ≡ a .negative) × (v % 8 ≡ a .mark) × (v < 16)
   marks-apart =
       let a = after es .detectors .motion .alarm in
       rw (← marks-whole a (mark-small es)) (alarm.marks-apart a (mark-small es))
 
--- ---- the same as a recorder sees it, bit by bit: whatever else the byte shows
--- the three statuses of 0x0A stand in their bits
-pub data-apart : (p q r : Bool) → let b = worth 128 p + (worth 64 q + (worth 32 r + 0)) in (bit 7 b ≡ p) × (bit 6 b ≡ q) × (bit 5 b ≡ r)
-unfolding bit
-data-apart true true true = (refl, refl, refl)
-data-apart true true false = (refl, refl, refl)
-data-apart true false true = (refl, refl, refl)
-data-apart true false false = (refl, refl, refl)
-data-apart false true true = (refl, refl, refl)
-data-apart false true false = (refl, refl, refl)
-data-apart false false true = (refl, refl, refl)
-data-apart false false false = (refl, refl, refl)
-
+-- ---- what a recorder sees, bit by bit: whatever else the byte shows
 module _ (es : List Event) where
-  seen : (a v : ℕ) → gives (after es) (read a 1) ≡ bytes (v ∷ []) → byteSeen es a ≡ v
-  seen a v e = ap (λ (g : Given). getD (g .bytes) 0 0) e
+  seen : (a : ℕ) → a < 0x3F → byteSeen es a ≡ singleByte (after es) a
+  seen a h = ap (λ (g : Given). getD (g .bytes) 0 0) (single (after es) a h)
+
+  pub byte-seen : ByteWrites es → (a : ℕ) → a < 0x3F → byteSeen es a ≡ ruled (elsewhereIn (after es)) es a
+  byte-seen b a h = seen a h ∙ byte-ruled es b a (omega arith)
+
+  pub tabled-seen : (a : ℕ) → a < 0x3F → isTabled a ≡ true → byteSeen es a ≡ reg (after es) a
+  tabled-seen a h t = seen a h ∙ tabled-byte (after es) a (omega arith) t
+
+  -- at each address that shows statuses, the status whose bit it is; and 0 where it is none's
+  pub status-seen : (a : ℕ) → isIn statusAddresses a ≡ true → (k : ℕ) → bitSeen es a k ≡ holdsAt a k (shownIn (statusesNow es) allStatuses)
+  unfolding byteFrom shownByte
+  status-seen a m k =
+      ap (bit k) (at-any (λ a. byteSeen es a ≡ statusByte a (statusesNow es)) statusAddresses (seen 0x09 (omega arith), (seen 0x0A (omega arith), tt)) a m ∙ byte-worth a (statusesNow es))
+      ∙ bit-is a (shownIn (statusesNow es) allStatuses) refl k
 
   -- "any-motion (0x09 bit 2)"
   pub motion-seen : bitSeen es 0x09 2 ≡ motionStatus (after es .detectors)
-  unfolding bit
-  motion-seen = ap (bit 2) (seen 0x09 (worth 4 (motionStatus (after es .detectors))) (reads-motion es)) ∙ alone (motionStatus (after es .detectors))
-    where
-      alone : (m : Bool) → bit 2 (worth 4 m) ≡ m
-      alone true = refl
-      alone false = refl
+  unfolding statusesOf
+  motion-seen = status-seen 0x09 refl 2
 
   -- "data (0x0A bit 7)", "watermark (0x0A bit 6)", "full (0x0A bit 5)"
   pub interrupts-seen : ByteWrites es → let w = elsewhereIn (after es) in (bitSeen es 0x0A 7 ≡ dataStatus w es) × (bitSeen es 0x0A 6 ≡ watermarkStatus w es) × (bitSeen es 0x0A 5 ≡ fullStatus w es)
-  interrupts-seen b =
-      let w = elsewhereIn (after es) in
-      rw (seen 0x0A _ (reads-interrupts es b), ← in-order (worth 128 (dataStatus w es)) (worth 64 (watermarkStatus w es)) (worth 32 (fullStatus w es)))
-      (data-apart (dataStatus w es) (watermarkStatus w es) (fullStatus w es))
+  interrupts-seen b = (of 7, of 6, of 5)
+    where
+      of : (k : ℕ) → bitSeen es 0x0A k ≡ holdsAt 0x0A k (statusesBy (elsewhereIn (after es)) es)
+      of k = status-seen 0x0A refl k ∙ ap (holdsAt 0x0A k) (statuses-are es b)
 
   -- "0x0B bits 2:0 (z, y, x) mark the first over axis .., and bit 3 is 1 for a negative difference"
   pub marks-seen : let a = after es .detectors .motion .alarm in (bitSeen es 0x0B 3 ≡ a .negative) × (byteSeen es 0x0B % 8 ≡ a .mark)
-  unfolding ruled
+  unfolding byteFrom shownByte
   marks-seen =
-      let v = seen 0x0B _ (reads-marks es .0) in
-      let m = marks-apart es in
-      (rw v (m .0), rw v (m .1))
+      let m = alarm.marks-apart (after es .detectors .motion .alarm) (mark-small es) in
+      rw (seen 0x0B (omega arith)) (m .0, m .1)

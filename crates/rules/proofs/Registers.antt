@@ -7,8 +7,8 @@ use mathlib.Core.List.{List, [], _∷_}
 use native.Mathlib.Omega.{arith}
 use lib.Dec.{eqb, ltb}
 use lib.ListN.{getD}
-use borrow.Author.Tests.{eqb-true, ltb-true, lt-ltb, eq-eqb, ne-eqb}
-use Rattle.laws.specs.Choice.{pick, both, either}
+use borrow.Author.Tests.{eqb-true, ltb-true, eq-eqb, ne-eqb}
+use Rattle.laws.specs.Choice.{pick, both}
 use Rattle.laws.specs.Lists.{isIn}
 use Rattle.laws.specs.Bits.{bit}
 use Rattle.laws.proofs.Finite.{alike, left, right, all, each}
@@ -24,44 +24,26 @@ use Rattle.registers.specs.Refused.{writeAnswer, answerAt, reservedCode, notMod
 use Rattle.registers.specs.declared.Answer.the-variants.{Done}
 use Rattle.device.specs.Device.{chipNumber, firstBytes, powerUp, reg}
 use Rattle.device.specs.Show.{shownByte}
-use Rattle.device.specs.Read.{byteFrom, singleByte, isData}
+use Rattle.device.specs.Read.{byteFrom, singleByte}
 use Rattle.device.specs.Write.{writeOf, written, regsReset}
 use Rattle.device.specs.declared.Device.{Device}
 use Rattle.events.specs.Event.{Event, write, read, answer, bytes, gives}
 use Rattle.events.specs.Run.{next, after, allGiven}
 use Rattle.events.specs.Bank.{bank, stored}
 use Rattle.events.proofs.Runs.{bank-is, bank-length}
-use Rattle.rules.specs.Data.{dataAddresses}
 use Rattle.rules.specs.Rules.{isTabled}
 use Rattle.paper.proofs.Bits.{bit-merged, bit-clear}
 use Rattle.rules.proofs.Codes.{accepted-clear, first-clear, range-stored, mode-stored}
 use Rattle.paper.proofs.Writes.{isStored, spared, byteWritten, byte-written, reset-byte}
 use Rattle.rules.proofs.Proper.{proper}
 use Rattle.rules.proofs.Bursts.{single}
+use Rattle.rules.proofs.Shown.{tabled-byte}
 
 -- ---- the stored bytes, from the events alone
 pub registers : (es : List Event) (a : ℕ) → reg (after es) a ≡ stored es a
 registers es a = ap (λ (regs : List ℕ). getD regs a 0) (bank-is es)
 
 -- ---- "Register table"
-pub data-address : (a : ℕ) → a < 64 → isData a ≡ isIn dataAddresses a
-data-address = alike isData (isIn dataAddresses) 64 refl
-
-tabled-byte : (d : Device) (a : ℕ) → a < 64 → isTabled a ≡ true → singleByte d a ≡ reg d a
-unfolding byteFrom shownByte
-tabled-byte d a h t = rw (lt-ltb a 64 h, data-address a h) (go (isIn dataAddresses a) (eqb a 0x08) (eqb a 0x09) (eqb a 0x0A) (eqb a 0x0B) (eqb a 0x0E) _ _ _ _ _ _ t)
-  where
-    -- whatever the bytes that show there
-    go : (p q r u v w : Bool) (c t s₁ s₂ m f : ℕ) → not (either p (either q (either r (either u (either v (either w false)))))) ≡ true
-        → pick p c (pick q t (pick r s₁ (pick u s₂ (pick v m (pick w f (reg d a)))))) ≡ reg d a
-    go true q r u v w c t s₁ s₂ m f e = cc
-    go false true r u v w c t s₁ s₂ m f e = cc
-    go false false true u v w c t s₁ s₂ m f e = cc
-    go false false false true v w c t s₁ s₂ m f e = cc
-    go false false false false true w c t s₁ s₂ m f e = cc
-    go false false false false false true c t s₁ s₂ m f e = cc
-    go false false false false false false c t s₁ s₂ m f e = refl
-
 -- of these addresses the byte is that of the last write that was stored, since reset, or the reset byte
 pub reads-tabled : (es : List Event) (a : ℕ) → a < 0x3F → isTabled a ≡ true → gives (after es) (read a 1) ≡ bytes (stored es a ∷ [])
 reads-tabled es a h t = single (after es) a h ∙ rw (tabled-byte (after es) a (omega arith) t, bank-is es)

@@ -1,8 +1,8 @@
 -- 01, "Register table", "Data channels" and "Interrupts and pins", over a history whose latest event stands first: what each address below
 -- 0x3F reads, and the pins.
-use Prim.Native.Nat.{ℕ, zero, suc, _+_, _/_}
+use Prim.Native.Nat.{ℕ, zero, suc, _+_, _/_, _^_}
 use mathlib.Core.Bool.{Bool, true, false, not}
-use mathlib.Core.List.{List, [], _∷_}
+use mathlib.Core.List.{List, [], _∷_, _++_}
 use mathlib.Core.Path.{_≡_}
 use lib.Dec.{eqb, leb}
 use Rattle.laws.specs.Choice.{pick, both, either}
@@ -17,15 +17,45 @@ use Rattle.rules.specs.Bursts.{opened}
 use Rattle.paper.specs.Back.{someSince}
 use Rattle.rules.specs.Data.{isStart, isSample, lastSample, dataAddresses, dataBy}
 
--- ---- what the rules of the FIFO and of any-motion say at the end of the history
+-- ---- statuses and marks
+-- a bit of a register
+pub record Place : Type 0 where
+  pub address : ℕ
+  pub number : ℕ
+
+abbrev pub place : ℕ → ℕ → Place
+place a k = record { address = a; number = k }
+
+-- a status: the bit that shows it, and whether it is 1
+pub record Status : Type 0 where
+  pub shown : Place
+  pub holds : Bool
+
+abbrev pub status : ℕ → ℕ → Bool → Status
+status a k t = record { shown = place a k; holds = t }
+
+-- what the statuses among ss are worth at an address
+unfoldable pub worthsAt : ℕ → List Status → ℕ
+worthsAt a [] = 0
+worthsAt a (s ∷ ss) = pick (eqb (s .shown .address) a) (worth (2 ^ (s .shown .number)) (s .holds) + worthsAt a ss) (worthsAt a ss)
+
+-- the byte in which detectors mark what set them, and its address
+pub record Marks : Type 0 where
+  pub address : ℕ
+  pub byte : ℕ
+
+abbrev pub marksAt : ℕ → List Marks → ℕ
+marksAt a [] = 0
+marksAt a (m ∷ ms) = pick (eqb (m .address) a) (m .byte) (marksAt a ms)
+
+-- ---- what the rules of the FIFO and of the detectors say at the end of the history
 pub record Elsewhere : Type 0 where
   -- the frames held, and the overrun bit
   pub count : ℕ
   pub overrun : Bool
-  -- the status, its mark and its sign
-  pub moved : Bool
-  pub mark : ℕ
-  pub negative : Bool
+  -- each detector's status, and the bytes of their marks
+  pub statuses : List Status
+  pub marks : List Marks
 
 -- ---- what else the statuses are made of
 -- "an accepted sample came since the last cycle start or reset"
@@ -35,6 +65,13 @@ cameBy es = someSince (λ e h. isSample e) (λ e h. either (isStart e) (isCycle 
 -- "Depth is 32 in FIFO and STREAM, 1 in BYPASS"; "bits 7:6 are 00 BYPASS"
 abbrev pub depthBy : List Event → ℕ
 depthBy es = pick (eqb (byteBy es 0x3E / 64) 0b00) 1 32
+
+-- the addresses that show statuses, and those that show marks
+abbrev pub statusAddresses : List ℕ
+statusAddresses = 0x09 ∷ 0x0A ∷ []
+
+abbrev pub marksAddresses : List ℕ
+marksAddresses = 0x0B ∷ []
 
 module _ (w : Elsewhere) (es : List Event) where
   -- ---- the statuses
@@ -52,22 +89,23 @@ module _ (w : Elsewhere) (es : List Event) where
       let level = byteBy es 0x30 in
       both (bit 6 (byteBy es 0x17)) (both (both (leb 1 level) (leb level 32)) (leb level (w .count)))
 
+  -- all of them: the detectors', "data (0x0A bit 7)", "watermark (0x0A bit 6)", "full (0x0A bit 5)"
+  abbrev pub statusesBy : List Status
+  statusesBy = w .statuses ++ (status 0x0A 7 dataStatus ∷ status 0x0A 6 watermarkStatus ∷ status 0x0A 5 fullStatus ∷ [])
+
   -- ---- the byte that an address below 0x3F reads
   unfoldable pub ruled : ℕ → ℕ
   ruled a =
       pick (isIn dataAddresses a) (dataBy (opened es) a)
       -- "A sample sets .. 0x08"
       (pick (eqb a 0x08) (lastSample es .temperature)
-      -- "any-motion (0x09 bit 2)"
-      (pick (eqb a 0x09) (worth 4 (w .moved))
-      -- "data (0x0A bit 7)", "watermark (0x0A bit 6)", "full (0x0A bit 5)"
-      (pick (eqb a 0x0A) (worth 128 dataStatus + worth 64 watermarkStatus + worth 32 fullStatus)
-      -- "0x0B bits 2:0 (z, y, x) mark the first over axis .., and bit 3 is 1 for a negative difference"
-      (pick (eqb a 0x0B) (w .mark + worth 8 (w .negative))
+      -- "bits of 09 to 0C that no rule below names read 0"
+      (pick (isIn statusAddresses a) (worthsAt a statusesBy)
+      (pick (isIn marksAddresses a) (marksAt a (w .marks))
       -- "0x0E is overrun in bit 7, frame count in 6:0"
       (pick (eqb a 0x0E) (worth 128 (w .overrun) + w .count)
       -- "Register table"
-      (byteBy es a))))))
+      (byteBy es a)))))
 
 -- n bytes from address a on: "A burst below 0x3F equals single reads in rising address order"
 abbrev pub ruledFrom : Elsewhere → List Event → ℕ → ℕ → List ℕ
@@ -76,30 +114,45 @@ ruledFrom w es a (suc n) = ruled w es a ∷ ruledFrom w (read a 1 ∷ es) (suc a
 
 -- an address that reads a byte of the register table
 abbrev pub isTabled : ℕ → Bool
-isTabled a = not (either (isIn dataAddresses a) (isIn (0x08 ∷ 0x09 ∷ 0x0A ∷ 0x0B ∷ 0x0E ∷ []) a))
+isTabled a = not (either (isIn dataAddresses a) (either (eqb a 0x08) (either (isIn statusAddresses a) (either (isIn marksAddresses a) (eqb a 0x0E)))))
 
 -- ---- the pins, from the bytes that are read
--- a status, as an address and a bit, and the address and bit that map it to a pin
+-- a status: the bit that shows it, and the bits that map it to INT1 and to INT2
 pub record Mapped : Type 0 where
-  pub status : ℕ
-  pub statusBit : ℕ
-  pub map : ℕ
-  pub mapBit : ℕ
+  pub shown : Place
+  pub int1 : Place
+  pub int2 : Place
 
-abbrev mapped : ℕ → ℕ → ℕ → ℕ → Mapped
-mapped a i b j = record { status = a; statusBit = i; map = b; mapBit = j }
+abbrev mapped : Place → Place → Place → Mapped
+mapped s p q = record { shown = s; int1 = p; int2 = q }
 
 -- "Maps: 0x19 bit 2 for INT1, 0x1B bit 2 for INT2; 0x1A bits 0, 1, 2 are data, watermark, full for INT1, and 7, 6, 5 for INT2"
-abbrev pub toInt1 : List Mapped
-toInt1 = mapped 0x09 2 0x19 2 ∷ mapped 0x0A 7 0x1A 0 ∷ mapped 0x0A 6 0x1A 1 ∷ mapped 0x0A 5 0x1A 2 ∷ []
+abbrev pub maps : List Mapped
+maps =
+    -- "any-motion (0x09 bit 2)"
+    mapped (place 0x09 2) (place 0x19 2) (place 0x1B 2) ∷
+    -- "data (0x0A bit 7)"
+    mapped (place 0x0A 7) (place 0x1A 0) (place 0x1A 7) ∷
+    -- "watermark (0x0A bit 6)"
+    mapped (place 0x0A 6) (place 0x1A 1) (place 0x1A 6) ∷
+    -- "full (0x0A bit 5)"
+    mapped (place 0x0A 5) (place 0x1A 2) (place 0x1A 5) ∷ []
 
-abbrev pub toInt2 : List Mapped
-toInt2 = mapped 0x09 2 0x1B 2 ∷ mapped 0x0A 7 0x1A 7 ∷ mapped 0x0A 6 0x1A 6 ∷ mapped 0x0A 5 0x1A 5 ∷ []
+-- the bit that maps a status to INT1, and to INT2
+abbrev pub toInt1 : Mapped → Place
+toInt1 m = m .int1
 
--- "A pin is active when some mapped status is 1": of what is read at each address
-abbrev pub someMapped : (ℕ → ℕ) → List Mapped → Bool
-someMapped r [] = false
-someMapped r (m ∷ ms) = either (both (bit (m .statusBit) (r (m .status))) (bit (m .mapBit) (r (m .map)))) (someMapped r ms)
+abbrev pub toInt2 : Mapped → Place
+toInt2 m = m .int2
+
+-- whether a bit is 1, of what is read at each address
+abbrev pub isOne : (ℕ → ℕ) → Place → Bool
+isOne r p = bit (p .number) (r (p .address))
+
+-- "A pin is active when some mapped status is 1": of which bits are 1, and of the bit that maps a status to the pin
+abbrev pub someMapped : (Place → Bool) → (Mapped → Place) → List Mapped → Bool
+someMapped one pin [] = false
+someMapped one pin (m ∷ ms) = either (both (one (m .shown)) (one (pin m))) (someMapped one pin ms)
 
 -- of whether a pin is active, whether its active level is high, and whether it is open-drive: "0x20 bits 0 and 2 give the active level of
 -- INT1 and INT2; bits 1 and 3 choose open-drive, where an inactive pin is released"; one that is not open-drive has the other level
