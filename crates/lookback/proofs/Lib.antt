@@ -1,0 +1,9 @@
+pub mod InForce
+pub mod Seen
+pub mod Parts
+pub mod Agrees
+pub mod Came
+pub mod Stays
+pub mod Setter
+pub mod Held
+pub mod InRow

@@ -1,0 +1,14 @@
+-- What a detector sees of a history: points, and time that passes. The latest stands first.
+use Prim.Native.Nat.{ℕ}
+use mathlib.Core.List.{List, [], _∷_}
+
+pub data Sight (P : Type 0) : Type 0 where
+  point : P → Sight P
+  -- microseconds
+  passed : ℕ → Sight P
+
+-- the points alone
+abbrev pub pointsIn : {P : Type 0} → List (Sight P) → List P
+pointsIn [] = []
+pointsIn (point p ∷ ss) = p ∷ pointsIn ss
+pointsIn (passed us ∷ ss) = pointsIn ss
