@@ -9,6 +9,7 @@ use lib.Dec.{eqb, ltb}
 use lib.ListN.{getD}
 use borrow.Author.Tests.{le-ltb, ne-eqb}
 use Rattle.laws.specs.Bits.{bit}
+use Rattle.laws.specs.Keys.{_means_}
 use Rattle.laws.specs.Bytes.{firstOrZeros}
 use Rattle.laws.proofs.Bytes.{length-zeros}
 use Rattle.fifo.specs.Flat.{flat, packed}
@@ -28,7 +29,7 @@ use Rattle.history.proofs.Conserve.{demand3, device-holds}
 use Rattle.anymotion.specs.Marks.{marksByte}
 use Rattle.anymotion.proofs.Detector.{detector-is}
 use Rattle.anymotion.proofs.Promise.{reads-marks}
-use Rattle.rules.specs.Rules.{status, Elsewhere, ruled, maps, toInt1, toInt2, isOne, someMapped, Leveled}
+use Rattle.rules.specs.Rules.{status, Elsewhere, ruled, maps, isOne, someMapped, Leveled}
 use Rattle.paper.specs.Stored.{ByteWrites}
 use Rattle.rules.proofs.Bursts.{single}
 use Rattle.rules.proofs.Shown.{elsewhereIn}
@@ -48,7 +49,7 @@ elsewhere-is es = λ i. record {
   count = device-holds es i .count;
   overrun = device-holds es i .overrun;
   statuses = status 0x09 2 (detector-is es i .alarm .status) ∷ [];
-  marks = record { address = 0x0B; byte = marks-are es i } ∷ [];
+  marks = 0x0B means marks-are es i ∷ [];
 }
 
 -- ---- a readout
@@ -83,8 +84,8 @@ module _ (es : List Event) (n : ℕ) (some : 1 ≤ n) (few : n ≤ 192) where
 pub demand2 : (es : List Event) → ByteWrites es → Demand2 es
 demand2 es b =
     let p = subst (λ (w : Elsewhere). let r = ruled w es in
-    Leveled (someMapped (isOne r) toInt1 maps) (bit 0 (r 0x20)) (bit 1 (r 0x20)) (pinsOf (after es) .int1)
-    × Leveled (someMapped (isOne r) toInt2 maps) (bit 2 (r 0x20)) (bit 3 (r 0x20)) (pinsOf (after es) .int2)) (elsewhere-is es) (pins es b) in
+    Leveled (someMapped (isOne r) (λ m. m .int1) maps) (bit 0 (r 0x20)) (bit 1 (r 0x20)) (pinsOf (after es) .int1)
+    × Leveled (someMapped (isOne r) (λ m. m .int2) maps) (bit 2 (r 0x20)) (bit 3 (r 0x20)) (pinsOf (after es) .int2)) (elsewhere-is es) (pins es b) in
     record {
       below = λ a n h. reads es b a n h ∙ rw (elsewhere-is es);
       frames = λ n some few. readout es n some few;

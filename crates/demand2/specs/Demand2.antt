@@ -7,6 +7,7 @@ use mathlib.Core.Path.{_≡_}
 use lib.Dec.{ltb}
 use lib.ListN.{length}
 use Rattle.laws.specs.Bits.{bit}
+use Rattle.laws.specs.Keys.{_means_}
 use Rattle.laws.specs.Bytes.{firstOrZeros}
 use Rattle.fifo.specs.Flat.{flat}
 use Rattle.fifo.specs.Ledger.{heldOf, lostOf}
@@ -18,7 +19,7 @@ use Rattle.history.specs.History.{accelerometer}
 use Rattle.anymotion.specs.Status.{isSet}
 use Rattle.anymotion.specs.Marks.{marksByte}
 use Rattle.rules.specs.Bursts.{isBurst}
-use Rattle.rules.specs.Rules.{status, Elsewhere, ruled, ruledFrom, maps, toInt1, toInt2, isOne, someMapped, Leveled}
+use Rattle.rules.specs.Rules.{status, Elsewhere, ruled, ruledFrom, maps, isOne, someMapped, Leveled}
 
 -- what the FIFO and the detectors show at the end of a history, from its events alone: the held and the lost are demand 3's, statuses and
 -- marks are told by looking back on the points
@@ -33,7 +34,7 @@ elsewhere es = record {
       status 0x09 2 (isSet es) ∷ [];
   marks =
       -- "0x0B bits 2:0 (z, y, x) mark the first over axis .., and bit 3 is 1 for a negative difference"
-      record { address = 0x0B; byte = marksByte es } ∷ [];
+      0x0B means marksByte es ∷ [];
 }
 
 -- the byte that an address below 0x3F reads, after a history
@@ -47,5 +48,5 @@ pub record Demand2 (es : List Event) : Type 0 where
   -- "A read at 0x3F stays there and gives frames oldest first .. Past the last frame it gives zeros"
   pub frames : (n : ℕ) → 1 ≤ n → n ≤ 192 → gives (after es) (read 0x3F n) ≡ bytes (firstOrZeros n (flat (heldOf (fates accelerometer es))))
   -- "0x20 bits 0 and 2 give the active level of INT1 and INT2; bits 1 and 3 choose open-drive"
-  pub int1 : Leveled (someMapped (isOne (byteRead es)) toInt1 maps) (bit 0 (byteRead es 0x20)) (bit 1 (byteRead es 0x20)) (pinsOf (after es) .int1)
-  pub int2 : Leveled (someMapped (isOne (byteRead es)) toInt2 maps) (bit 2 (byteRead es 0x20)) (bit 3 (byteRead es 0x20)) (pinsOf (after es) .int2)
+  pub int1 : Leveled (someMapped (isOne (byteRead es)) (λ m. m .int1) maps) (bit 0 (byteRead es 0x20)) (bit 1 (byteRead es 0x20)) (pinsOf (after es) .int1)
+  pub int2 : Leveled (someMapped (isOne (byteRead es)) (λ m. m .int2) maps) (bit 2 (byteRead es 0x20)) (bit 3 (byteRead es 0x20)) (pinsOf (after es) .int2)

@@ -22,7 +22,7 @@ use Rattle.events.specs.Event.{Event}
 use Rattle.events.specs.Run.{after}
 use Rattle.paper.specs.Stored.{ByteWrites}
 use Rattle.rules.specs.Shown.{bitSeen}
-use Rattle.rules.specs.Rules.{Place, statusAddresses, ruled, isTabled, Mapped, maps, toInt1, toInt2, isOne, someMapped, Leveled}
+use Rattle.rules.specs.Rules.{Place, statusAddresses, ruled, isTabled, Mapped, maps, isOne, someMapped, Leveled}
 use Rattle.rules.proofs.Worths.{holdsAt}
 use Rattle.rules.proofs.Shown.{shownIn, elsewhereIn}
 use Rattle.rules.proofs.Reading.{statusesNow, byte-seen, tabled-seen, status-seen}
@@ -77,23 +77,23 @@ module _ (es : List Event) (b : ByteWrites es) where
       go h true m e = sym (status-seen es (p .address) m (p .number))
       go h false m e = ap (bit (p .number)) (sym (tabled-seen es (p .address) h e))
 
-  active-1 : isActive Int1 (statusesNow es) (after es .regs) ≡ someMapped (isOne (ruled (elsewhereIn (after es)) es)) toInt1 maps
+  active-1 : isActive Int1 (statusesNow es) (after es .regs) ≡ someMapped (isOne (ruled (elsewhereIn (after es)) es)) (λ m. m .int1) maps
   unfolding isActive
-  active-1 = same-mapped (isOneIn (statusesNow es) (after es .regs)) (isOne (ruled (elsewhereIn (after es)) es)) one-is toInt1 maps refl
+  active-1 = same-mapped (isOneIn (statusesNow es) (after es .regs)) (isOne (ruled (elsewhereIn (after es)) es)) one-is (λ m. m .int1) maps refl
 
-  active-2 : isActive Int2 (statusesNow es) (after es .regs) ≡ someMapped (isOne (ruled (elsewhereIn (after es)) es)) toInt2 maps
+  active-2 : isActive Int2 (statusesNow es) (after es .regs) ≡ someMapped (isOne (ruled (elsewhereIn (after es)) es)) (λ m. m .int2) maps
   unfolding isActive
-  active-2 = same-mapped (isOneIn (statusesNow es) (after es .regs)) (isOne (ruled (elsewhereIn (after es)) es)) one-is toInt2 maps refl
+  active-2 = same-mapped (isOneIn (statusesNow es) (after es .regs)) (isOne (ruled (elsewhereIn (after es)) es)) one-is (λ m. m .int2) maps refl
 
   drive-is : reg (after es) 0x20 ≡ ruled (elsewhereIn (after es)) es 0x20
   drive-is = sym (tabled-seen es 0x20 (omega arith) refl) ∙ byte-seen es b 0x20 (omega arith)
 
   pub pins : let r = ruled (elsewhereIn (after es)) es in
-      Leveled (someMapped (isOne r) toInt1 maps) (bit 0 (r 0x20)) (bit 1 (r 0x20)) (pinsOf (after es) .int1)
-      × Leveled (someMapped (isOne r) toInt2 maps) (bit 2 (r 0x20)) (bit 3 (r 0x20)) (pinsOf (after es) .int2)
+      Leveled (someMapped (isOne r) (λ m. m .int1) maps) (bit 0 (r 0x20)) (bit 1 (r 0x20)) (pinsOf (after es) .int1)
+      × Leveled (someMapped (isOne r) (λ m. m .int2) maps) (bit 2 (r 0x20)) (bit 3 (r 0x20)) (pinsOf (after es) .int2)
   unfolding pinsOf pinLevel
   pins =
       let r = ruled (elsewhereIn (after es)) es in (
-        rw (active-1, drive-is) (leveled (someMapped (isOne r) toInt1 maps) (bit 0 (r 0x20)) (bit 1 (r 0x20))),
-        rw (active-2, drive-is) (leveled (someMapped (isOne r) toInt2 maps) (bit 2 (r 0x20)) (bit 3 (r 0x20))),
+        rw (active-1, drive-is) (leveled (someMapped (isOne r) (λ m. m .int1) maps) (bit 0 (r 0x20)) (bit 1 (r 0x20))),
+        rw (active-2, drive-is) (leveled (someMapped (isOne r) (λ m. m .int2) maps) (bit 2 (r 0x20)) (bit 3 (r 0x20))),
       )

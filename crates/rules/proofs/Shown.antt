@@ -8,6 +8,7 @@ use lib.Dec.{eqb}
 use borrow.Author.Tests.{eqb-true, lt-ltb}
 use Rattle.laws.specs.Choice.{pick, either}
 use Rattle.laws.specs.Lists.{isIn}
+use Rattle.laws.specs.Keys.{_means_, meaningOf}
 use Rattle.laws.proofs.Finite.{alike}
 use Rattle.channels.specs.Channels.{byteAt}
 use Rattle.fifo.specs.Store.{statusAt}
@@ -19,7 +20,7 @@ use Rattle.device.specs.Show.{insideOf, statusesIn, shownByte}
 use Rattle.device.specs.Read.{byteFrom, singleByte, isData}
 use Rattle.device.specs.declared.Device.{Device}
 use Rattle.rules.specs.Data.{dataAddresses}
-use Rattle.rules.specs.Rules.{Status, status, worthsAt, marksAt, Elsewhere, statusAddresses, marksAddresses, isTabled}
+use Rattle.rules.specs.Rules.{Status, status, worthsAt, Elsewhere, statusAddresses, marksAddresses, isTabled}
 
 -- ---- the code's list of statuses is one of the rules
 abbrev pub shownIn : Statuses → List StatusPlaces → List Status
@@ -46,7 +47,7 @@ elsewhereIn d = record {
   count = d .fifo .count;
   overrun = d .fifo .overrun;
   statuses = shownIn (statusesIn (d .regs) (insideOf d)) (onlyAt 0x09 allStatuses);
-  marks = record { address = 0x0B; byte = motionMarks (d .detectors) } ∷ [];
+  marks = 0x0B means motionMarks (d .detectors) ∷ [];
 }
 
 -- ---- the byte of an address
@@ -71,7 +72,7 @@ module _ (d : Device) (a : ℕ) (h : a < 64) where
       pick (isIn dataAddresses a) (byteAt (d .channels) a)
       (pick (eqb a 0x08) (d .temperature)
       (pick (isIn statusAddresses a) (statusByte a (statusesIn (d .regs) (insideOf d)))
-      (pick (isIn marksAddresses a) (marksAt a (elsewhereIn d .marks))
+      (pick (isIn marksAddresses a) (meaningOf (elsewhereIn d .marks) 0 a)
       (pick (eqb a 0x0E) (statusAt depth (d .fifo)) (reg d a)))))
   unfolding byteFrom shownByte
   single-is =
@@ -79,7 +80,7 @@ module _ (d : Device) (a : ℕ) (h : a < 64) where
       rw (data-address a h, lt-ltb a 64 h)
       (ap (λ rest. pick (isIn dataAddresses a) (byteAt (d .channels) a) (pick (eqb a 0x08) (d .temperature) rest))
       (by-list (λ k. statusByte k s) statusAddresses a _
-      ∙ ap (pick (isIn statusAddresses a) (statusByte a s)) (by-list (λ k. marksAt k (elsewhereIn d .marks)) marksAddresses a _)))
+      ∙ ap (pick (isIn statusAddresses a) (statusByte a s)) (by-list (meaningOf (elsewhereIn d .marks) 0) marksAddresses a _)))
 
   pub tabled-byte : isTabled a ≡ true → singleByte d a ≡ reg d a
   tabled-byte t = single-is ∙ go (isIn dataAddresses a) (eqb a 0x08) (isIn statusAddresses a) (isIn marksAddresses a) (eqb a 0x0E) _ _ _ _ _ t

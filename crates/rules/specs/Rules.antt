@@ -7,6 +7,7 @@ use mathlib.Core.Path.{_≡_}
 use lib.Dec.{eqb, leb}
 use Rattle.laws.specs.Choice.{pick, both, either}
 use Rattle.laws.specs.Lists.{isIn}
+use Rattle.laws.specs.Keys.{Key, meaningOf}
 use Rattle.laws.specs.Bits.{bit, worth}
 use Rattle.interrupts.specs.declared.Level.{Level}
 use Rattle.interrupts.specs.declared.Level.the-variants.{Low, High, Released}
@@ -17,7 +18,7 @@ use Rattle.rules.specs.Bursts.{opened}
 use Rattle.paper.specs.Back.{someSince}
 use Rattle.rules.specs.Data.{isStart, isSample, lastSample, dataAddresses, dataBy}
 
--- ---- statuses and marks
+-- ---- statuses
 -- a bit of a register
 pub record Place : Type 0 where
   pub address : ℕ
@@ -39,23 +40,14 @@ unfoldable pub worthsAt : ℕ → List Status → ℕ
 worthsAt a [] = 0
 worthsAt a (s ∷ ss) = pick (eqb (s .shown .address) a) (worth (2 ^ (s .shown .number)) (s .holds) + worthsAt a ss) (worthsAt a ss)
 
--- the byte in which detectors mark what set them, and its address
-pub record Marks : Type 0 where
-  pub address : ℕ
-  pub byte : ℕ
-
-abbrev pub marksAt : ℕ → List Marks → ℕ
-marksAt a [] = 0
-marksAt a (m ∷ ms) = pick (eqb (m .address) a) (m .byte) (marksAt a ms)
-
 -- ---- what the rules of the FIFO and of the detectors say at the end of the history
 pub record Elsewhere : Type 0 where
   -- the frames held, and the overrun bit
   pub count : ℕ
   pub overrun : Bool
-  -- each detector's status, and the bytes of their marks
+  -- each detector's status, and the bytes in which they mark what set them, by address
   pub statuses : List Status
-  pub marks : List Marks
+  pub marks : List (Key ℕ)
 
 -- ---- what else the statuses are made of
 -- "an accepted sample came since the last cycle start or reset"
@@ -101,7 +93,7 @@ module _ (w : Elsewhere) (es : List Event) where
       (pick (eqb a 0x08) (lastSample es .temperature)
       -- "bits of 09 to 0C that no rule below names read 0"
       (pick (isIn statusAddresses a) (worthsAt a statusesBy)
-      (pick (isIn marksAddresses a) (marksAt a (w .marks))
+      (pick (isIn marksAddresses a) (meaningOf (w .marks) 0 a)
       -- "0x0E is overrun in bit 7, frame count in 6:0"
       (pick (eqb a 0x0E) (worth 128 (w .overrun) + w .count)
       -- "Register table"
@@ -123,27 +115,17 @@ pub record Mapped : Type 0 where
   pub int1 : Place
   pub int2 : Place
 
-abbrev mapped : Place → Place → Place → Mapped
-mapped s p q = record { shown = s; int1 = p; int2 = q }
-
 -- "Maps: 0x19 bit 2 for INT1, 0x1B bit 2 for INT2; 0x1A bits 0, 1, 2 are data, watermark, full for INT1, and 7, 6, 5 for INT2"
 abbrev pub maps : List Mapped
 maps =
     -- "any-motion (0x09 bit 2)"
-    mapped (place 0x09 2) (place 0x19 2) (place 0x1B 2) ∷
+    record { shown = place 0x09 2; int1 = place 0x19 2; int2 = place 0x1B 2 } ∷
     -- "data (0x0A bit 7)"
-    mapped (place 0x0A 7) (place 0x1A 0) (place 0x1A 7) ∷
+    record { shown = place 0x0A 7; int1 = place 0x1A 0; int2 = place 0x1A 7 } ∷
     -- "watermark (0x0A bit 6)"
-    mapped (place 0x0A 6) (place 0x1A 1) (place 0x1A 6) ∷
+    record { shown = place 0x0A 6; int1 = place 0x1A 1; int2 = place 0x1A 6 } ∷
     -- "full (0x0A bit 5)"
-    mapped (place 0x0A 5) (place 0x1A 2) (place 0x1A 5) ∷ []
-
--- the bit that maps a status to INT1, and to INT2
-abbrev pub toInt1 : Mapped → Place
-toInt1 m = m .int1
-
-abbrev pub toInt2 : Mapped → Place
-toInt2 m = m .int2
+    record { shown = place 0x0A 5; int1 = place 0x1A 2; int2 = place 0x1A 5 } ∷ []
 
 -- whether a bit is 1, of what is read at each address
 abbrev pub isOne : (ℕ → ℕ) → Place → Bool
