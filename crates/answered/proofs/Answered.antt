@@ -27,11 +27,13 @@ use Rattle.spelling.proofs.Spelling.{stretch-spelt, in-force-spelt}
 use Rattle.events.specs.Bank.{stored}
 use Rattle.events.specs.Event.{Event, powerUp, write, read, sample, cycle, clock}
 use Rattle.entries.specs.Entries.{eventOf}
+use Rattle.recorded.specs.Recorded.{Recorded, recordOf, eventsOf}
+use Rattle.recorded.proofs.Recorded.{events-append}
 use Rattle.paper.specs.Stored.{ByteWrites}
 use Rattle.paper.proofs.Stored.{stored-is}
-use Rattle.stretches.specs.Histories.{accountOf, Stretch, Between, Each}
+use Rattle.stretches.specs.Histories.{accountOf, Stretch, Part, Between, Each}
 use Rattle.stretches.proofs.Ranges.{range-known}
-use Rattle.told.specs.Histories.{eventsAs, eventsOnto}
+use Rattle.told.specs.Histories.{recordsAs, recordsOnto}
 use Rattle.told.specs.Plain.{printedStretches, before, seenAt, lineOf}
 use Rattle.told.proofs.Stretches.{all-of-lead}
 use Rattle.ranges.specs.Ranges.{MeansG}
@@ -50,28 +52,29 @@ word-is G8 k = refl
 word-is G16 k = refl
 word-is Reserved k = cc
 
-module _ (es : List Event) (writes : ByteWrites es) where
-  account-means : MeansG (codeBy es) (inG (accountOf es .range))
-  account-means = subst (λ n. MeansG (n % 16) (inG (accountOf es .range))) (stored-is es writes 0x0F (omega arith)) (range-means (stored es rangeAt))
+module _ (rs : List Recorded) (writes : ByteWrites (eventsOf rs)) where
+  account-means : MeansG (codeBy (eventsOf rs)) (inG (accountOf rs .range))
+  account-means =
+      subst (λ n. MeansG (n % 16) (inG (accountOf rs .range))) (stored-is (eventsOf rs) writes 0x0F (omega arith)) (range-means (stored (eventsOf rs) rangeAt))
 
-  said : (g : ℕ) → inG (accountOf es .range) ≡ g → gText (accountOf es .range) ≡ in-words g
-  said g is = word-is (accountOf es .range) (range-known es) ∙ ap in-words is
+  said : (g : ℕ) → inG (accountOf rs .range) ≡ g → gText (accountOf rs .range) ≡ in-words g
+  said g is = word-is (accountOf rs .range) (range-known rs) ∙ ap in-words is
 
-  pub says-range : SaysRange es (gText (accountOf es .range))
+  pub says-range : SaysRange (eventsOf rs) (gText (accountOf rs .range))
   unfolding decimal lastDigits
   says-range = record {
     2g = λ h. said 2 (account-means .two .1 h);
     4g = λ h. said 4 (account-means .four .1 h);
     8g = λ h. said 8 (account-means .eight .1 h);
     16g = λ h. said 16 (account-means .sixteen .1 h);
-    known = λ h. known-some (accountOf es .range) (range-known es) (account-means .none .1 h);
+    known = λ h. known-some (accountOf rs .range) (range-known rs) (account-means .none .1 h);
   }
 
-  pub told-range : ToldRange es
-  told-range = record { word = gText (accountOf es .range); line = in-force-spelt (accountOf es) .range; says = says-range }
+  pub told-range : ToldRange rs
+  told-range = record { word = gText (accountOf rs .range); line = in-force-spelt (accountOf rs) .range; says = says-range }
 
 -- ---- the third column
-third-column : (moded : Bool) (s : Stretch) → ByteWrites (seenAt s) → ThirdColumn moded s
+third-column : (moded : Bool) (s : Stretch) → ByteWrites (eventsOf (seenAt s)) → ThirdColumn moded s
 third-column moded s writes = go moded
   where
     from : Account
@@ -97,7 +100,7 @@ third-column moded s writes = go moded
     go true = with-more true ((modeText (seen .mode) ++ doubtText (seen .doubts .mode)) ∷ []) (stretch-spelt from to seen (s .why) .moded)
     go false = with-more false [] (stretch-spelt from to seen (s .why) .plain)
 
--- ---- any events
+-- ---- any records
 -- an earlier history writes no more
 earlier-writes : (later es : List Event) → ByteWrites (later ++ es) → ByteWrites es
 earlier-writes [] es b = b
@@ -108,28 +111,30 @@ earlier-writes (sample x y z temperature ∷ later) es b = earlier-writes later 
 earlier-writes (cycle ∷ later) es b = earlier-writes later es b
 earlier-writes (clock us ∷ later) es b = earlier-writes later es b
 
-before-writes : (es : List Event) → ByteWrites es → ByteWrites (before es)
-before-writes [] b = tt
-before-writes (e ∷ es) b = earlier-writes (e ∷ []) es b
+-- and so do earlier records
+before-part : (earlier rs : List Recorded) → Part earlier rs → ByteWrites (eventsOf rs) → ByteWrites (eventsOf earlier)
+before-part earlier rs part b =
+    earlier-writes (eventsOf (part .0)) (eventsOf earlier) (subst ByteWrites (ap eventsOf (part .1) ∙ events-append (part .0) earlier) b)
 
-seen-writes : (s : Stretch) → ByteWrites (s .to) → ByteWrites (seenAt s)
-seen-writes s b = go (ends (s .why))
+seen-part : (s : Stretch) → Part (seenAt s) (s .to)
+seen-part s = go (ends (s .why)) (s .to)
   where
-    go : (t : Bool) → ByteWrites (pick t (before (s .to)) (s .to))
-    go true = before-writes (s .to) b
-    go false = b
+    go : (t : Bool) (rs : List Recorded) → Part (pick t (before rs) rs) rs
+    go true [] = ([], refl)
+    go true (r ∷ rs) = (r ∷ [], refl)
+    go false rs = ([], refl)
 
-lines-between : (moded : Bool) (ss : List Stretch) (h k : List Event) → Between h ss k → ByteWrites k → Each (ThirdColumn moded) ss
+lines-between : (moded : Bool) (ss : List Stretch) (h k : List Recorded) → Between h ss k → ByteWrites (eventsOf k) → Each (ThirdColumn moded) ss
 lines-between moded [] h k b writes = tt
 lines-between moded (s ∷ ss) h k b writes =
-    let upto : ByteWrites (s .to) = subst ByteWrites (sym (b .0)) writes in
-    let from : ByteWrites (s .from) = earlier-writes (b .1 .0) (s .from) (subst ByteWrites (b .1 .1) upto) in
-    (third-column moded s (seen-writes s upto), lines-between moded ss h (s .from) (b .2) from)
+    let upto : ByteWrites (eventsOf (s .to)) = subst (λ rs. ByteWrites (eventsOf rs)) (sym (b .0)) writes in
+    let from : ByteWrites (eventsOf (s .from)) = before-part (s .from) (s .to) (b .1) upto in
+    (third-column moded s (before-part (seenAt s) (s .to) (seen-part s) upto), lines-between moded ss h (s .from) (b .2) from)
 
-pub answered-ranges : (es : List Event) → ByteWrites es → AnsweredRanges es
-answered-ranges es writes = record {
-  lines = λ moded. lines-between moded (printedStretches es) [] es (all-of-lead es) writes;
-  words = λ earlier part. told-range earlier (earlier-writes (part .0) earlier (subst ByteWrites (part .1) writes));
+pub answered-ranges : (rs : List Recorded) → ByteWrites (eventsOf rs) → AnsweredRanges rs
+answered-ranges rs writes = record {
+  lines = λ moded. lines-between moded (printedStretches rs) [] rs (all-of-lead rs) writes;
+  words = λ earlier part. told-range earlier (before-part earlier rs part writes);
 }
 
 -- ---- any log
@@ -142,24 +147,24 @@ record-writes (entry.Sample s) p es b = b
 record-writes (entry.CycleStart c) p es b = b
 record-writes (entry.Clock k) p es b = b
 
-log-writes : (k : ℕ) (es : List Event) → ByteWrites es → (bytes : List ℕ) → Bytes bytes → ByteWrites (eventsOnto k es bytes)
-unfolding eventsOnto
-log-writes zero es b bytes are = b
-log-writes (suc k) es b bytes are =
-    go (λ es′ b′. log-writes k es′ b′ rest (bytes-drop (readAt bytes 0 .next) bytes are)) (readAt bytes 0 .found) refl
+log-writes : (k : ℕ) (rs : List Recorded) → ByteWrites (eventsOf rs) → (bytes : List ℕ) → Bytes bytes → ByteWrites (eventsOf (recordsOnto k rs bytes))
+unfolding recordsOnto
+log-writes zero rs b bytes are = b
+log-writes (suc k) rs b bytes are =
+    go (λ rs′ b′. log-writes k rs′ b′ rest (bytes-drop (readAt bytes 0 .next) bytes are)) (readAt bytes 0 .found) refl
   where
     rest : List ℕ
     rest = drop (readAt bytes 0 .next) bytes
 
-    go : ((es′ : List Event) → ByteWrites es′ → ByteWrites (eventsOnto k es′ rest)) → (f : Found) → readAt bytes 0 .found ≡ f
-        → ByteWrites (eventsAs f es (λ es′. eventsOnto k es′ rest))
-    go later (found.Record r) q = later (eventOf r ∷ es) (record-writes r (read-proper-at bytes 0 are r q) es b)
+    go : ((rs′ : List Recorded) → ByteWrites (eventsOf rs′) → ByteWrites (eventsOf (recordsOnto k rs′ rest))) → (f : Found) → readAt bytes 0 .found ≡ f
+        → ByteWrites (eventsOf (recordsAs f rs (λ rs′. recordsOnto k rs′ rest)))
+    go later (found.Record r) q = later (recordOf r ∷ rs) (record-writes r (read-proper-at bytes 0 are r q) (eventsOf rs) b)
     go later found.End q = b
     go later found.WrongRecord q = b
     go later found.Cut q = b
 
--- of the events that the answer's text is about (told/specs/Histories: toldAs), in any log of bytes
-pub log-ranges : (log : List ℕ) → Bytes log → let bytes = drop (readVersion log .next) log in AnsweredRanges (eventsOnto (suc (length bytes)) [] bytes)
+-- of the records that the answer's text is about (told/specs/Histories: toldAs), in any log of bytes
+pub log-ranges : (log : List ℕ) → Bytes log → let bytes = drop (readVersion log .next) log in AnsweredRanges (recordsOnto (suc (length bytes)) [] bytes)
 log-ranges log are =
     let bytes = drop (readVersion log .next) log in
     answered-ranges _ (log-writes (suc (length bytes)) [] tt bytes (bytes-drop (readVersion log .next) log are))

@@ -8,6 +8,7 @@ use lib.ListN.{length}
 use Rattle.text.specs.Text.{ascii, decimal}
 use Rattle.events.specs.Event.{Event}
 use Rattle.paper.specs.Stored.{byteBy}
+use Rattle.recorded.specs.Recorded.{Recorded, eventsOf}
 use Rattle.counts.specs.Counts.{sum}
 use Rattle.counts.specs.declared.Doubt.{Doubt}
 use Rattle.wording.specs.Wording.{rangeLine}
@@ -29,8 +30,8 @@ pub record SaysRange (es : List Event) (word : List ℕ) : Type 0 where
   pub known : ¬ IsOther (codeBy es)
 
 -- whether it is in doubt
-abbrev pub doubtBy : List Event → Doubt
-doubtBy es = doubtOf 0x0F noRange es
+abbrev pub doubtBy : List Recorded → Doubt
+doubtBy rs = doubtOf 0x0F noRange rs
 
 -- "FROM TO RANGE ..": the third column of a stretch's line, "before its last record acts", with its mode or without
 pub record ThirdColumn (moded : Bool) (s : Stretch) : Type 0 where
@@ -39,15 +40,15 @@ pub record ThirdColumn (moded : Bool) (s : Stretch) : Type 0 where
   pub columnsBehind : List (List ℕ)
   pub line : lineOf moded s
       ≡ spaced (decimal (sum (length (s .from)) 1) ∷ decimal (length (s .to)) ∷ (word ++ doubtText (doubtBy (seenAt s))) ∷ fourth ∷ columnsBehind)
-  pub says : SaysRange (seenAt s) word
+  pub says : SaysRange (eventsOf (seenAt s)) word
 
 -- in words, the range that is in force behind a history
-pub record ToldRange (es : List Event) : Type 0 where
+pub record ToldRange (rs : List Recorded) : Type 0 where
   pub word : List ℕ
-  pub line : rangeLine (accountOf es) ≡ spaced (fromThen (accountOf es) (word ++ (doubtText (doubtBy es) ++ because (doubtBy es) 0x0F)))
-  pub says : SaysRange es word
+  pub line : rangeLine (accountOf rs) ≡ spaced (fromThen (accountOf rs) (word ++ (doubtText (doubtBy rs) ++ because (doubtBy rs) 0x0F)))
+  pub says : SaysRange (eventsOf rs) word
 
--- of a whole log's events: every line of a stretch, and the words behind any of its records
-pub record AnsweredRanges (es : List Event) : Type 0 where
-  pub lines : (moded : Bool) → Each (ThirdColumn moded) (printedStretches es)
-  pub words : (earlier : List Event) → Part earlier es → ToldRange earlier
+-- of a whole log's records: every line of a stretch, and the words behind any of its records
+pub record AnsweredRanges (rs : List Recorded) : Type 0 where
+  pub lines : (moded : Bool) → Each (ThirdColumn moded) (printedStretches rs)
+  pub words : (earlier : List Recorded) → Part earlier rs → ToldRange earlier

@@ -1,16 +1,17 @@
--- The account is what the histories say: the frames held, the range and the mode, why a stretch ends, and each count, one event at a time; and
+-- The account is what the histories say: the frames held, the range and the mode, why a stretch ends, and each count, one record at a time; and
 -- what it conserves between two histories.
 -- Assumes nothing.
 use Prim.Native.Nat.{ℕ, suc, _+_, _-_, _^_, _≤_, _<_, min}
 use mathlib.Core.Bool.{Bool, true, false, not}
 use mathlib.Core.List.{List, [], _∷_, _++_}
-use mathlib.Core.Path.{_≡_, refl, ap, sym, _∙_}
+use mathlib.Core.Path.{_≡_, refl, ap, sym, _∙_, subst}
+use native.Mathlib.Nat.{zero-add}
 use native.Mathlib.Omega.{arith}
 use lib.Dec.{eqb}
 use lib.ListN.{length, getD}
 use borrow.Author.Tests.{eqb-true, eqb-false}
 use Rattle.laws.specs.Bits.{worth}
-use Rattle.laws.specs.Choice.{pick, both}
+use Rattle.laws.specs.Choice.{pick, both, either}
 use Rattle.codes.specs.Addresses.{rangeAt, framesAt, controlAt}
 use Rattle.codes.specs.Axes.{axesOf}
 use Rattle.codes.specs.Mode.{modeOf}
@@ -21,10 +22,12 @@ use Rattle.fifo.specs.Ledger.{heldOf}
 use Rattle.fifo.specs.Store.{countIn}
 use Rattle.fifo.specs.declared.Setting.{Setting}
 use Rattle.registers.specs.Answers.{accepted}
-use Rattle.registers.specs.Deeds.{isReset, judgement, clears}
+use Rattle.registers.specs.Deeds.{judgement, clears}
+use Rattle.paper.specs.Stored.{isSoftReset}
 use Rattle.registers.specs.Refused.{readAnswer, writeAnswer}
 use Rattle.registers.specs.declared.Answer.{Answer}
 use Rattle.registers.proofs.Verdicts.{range-accepted, control-accepted}
+use Rattle.device.specs.Clock.{clockOf}
 use Rattle.device.specs.Device.{firstBytes}
 use Rattle.device.specs.Read.{readOf}
 use Rattle.device.specs.Sample.{sampleAnswer, sampleOf}
@@ -43,12 +46,16 @@ use Rattle.demand3.specs.Whole.{Totals, totalled, heldNow, totals}
 use Rattle.history.proofs.Conserve.{demand3, over-clears-here, device-holds, lawful}
 use Rattle.history.proofs.Holds.{holds-after}
 use Rattle.demand3.proofs.Whole.{few, next-totals, next-held}
+use Rattle.recorded.specs.Recorded.{Recorded, eventsOf, beforeOwn, answerTo}
+use Rattle.recorded.proofs.Recorded.{events-append, till-own}
+use Rattle.counts.specs.declared.Counts.{Counts}
+use Rattle.counts.specs.declared.Doubt.{Doubt}
 use Rattle.counts.specs.declared.Doubt.the-variants.{No, By}
 use Rattle.counts.specs.declared.Why.the-variants as why
 use Rattle.counts.specs.Counts as counts
 use Rattle.counts.specs.Counts.{sum, less, differences, left, arrived, firstAccount}
 use Rattle.account.specs.Account.{refusedBy, readoutsBy, countsAfter, whyOf, whyOfWrite, whyOfRead, doubtAfter, doubtsBehind, accountAfter}
-use Rattle.stretches.specs.Histories.{refusals, readoutsIn, countsOf, doubtOf, noRange, noMode, doubtsOf, accountOf, stepped, whyAt, Conserved, Grown, apart}
+use Rattle.stretches.specs.Histories.{refusals, readoutsIn, countsOf, doubtBehind, doubtOf, noRange, noMode, doubtsOf, accountOf, stepped, whyAt, isOf, Conserved, Grown, apart}
 
 -- ---- what the device says
 -- the frames that it holds are those of the ledger
@@ -77,8 +84,8 @@ range-why regs a byte = go (eqb a rangeAt) refl
     turned false = refl
 
     go : (t : Bool) → eqb a rangeAt ≡ t
-        → pick (isReset a byte) why.Reset (pick t (pick (accepted (writeAnswer regs a byte)) why.Range why.Refused) why.Nothing)
-        ≡ pick (isReset a byte) why.Reset (pick t (pick (isReservedRange (rangeOf byte)) why.Refused why.Range) why.Nothing)
+        → pick (isSoftReset a byte) why.Reset (pick t (pick (accepted (writeAnswer regs a byte)) why.Range why.Refused) why.Nothing)
+        ≡ pick (isSoftReset a byte) why.Reset (pick t (pick (isReservedRange (rangeOf byte)) why.Refused why.Range) why.Nothing)
     go true e = rw (eqb-true a rangeAt e, range-accepted regs byte, turned)
     go false e = refl
 
@@ -101,6 +108,20 @@ why-is es (sample x y z temperature) = refl
 why-is es cycle = refl
 why-is es (clock us) = refl
 
+-- ---- what a clock leaves as it is: a record's own event finds what was known behind the record before
+module _ (r : Recorded) (rs : List Recorded) where
+  pub counts-wait : countsOf (beforeOwn r rs) ≡ countsOf (eventsOf rs)
+  unfolding totals refusals readoutsIn saysHere clockOf
+  counts-wait = till-own countsOf (λ us es. simp zero-add) r rs
+
+  pub held-wait : heldNow accelerometer (beforeOwn r rs) ≡ heldNow accelerometer (eventsOf rs)
+  unfolding since saysHere control
+  held-wait = till-own (heldNow accelerometer) (λ us es. refl) r rs
+
+  pub control-wait : control (beforeOwn r rs) ≡ control (eventsOf rs)
+  unfolding control
+  control-wait = till-own control (λ us es. refl) r rs
+
 -- ---- how large the counts can be
 one-more : (s : Setting) (many : ℕ) (w : Said) (n : Totals) → totalled s many w n .accepted ≤ suc (n .accepted)
 one-more s many cleared n = omega arith
@@ -108,48 +129,63 @@ one-more s many (sampled f) n = omega arith
 one-more s many (readOut b) n = omega arith
 one-more s many nothing n = omega arith
 
-accepted-few : (es : List Event) → totals accelerometer es .accepted ≤ length es
+accepted-more : (es : List Event) (e : Event) → totals accelerometer (e ∷ es) .accepted ≤ suc (totals accelerometer es .accepted)
 unfolding totals
-accepted-few [] = omega arith
-accepted-few (e ∷ es) = omega (arith, one-more (setting es) (heldNow accelerometer es) (saysHere es e) (totals accelerometer es), accepted-few es)
+accepted-more es e = one-more (setting es) (heldNow accelerometer es) (saysHere es e) (totals accelerometer es)
 
 worth-few : (b : Bool) → worth 1 b ≤ 1
 worth-few true = omega arith
 worth-few false = omega arith
 
-refusals-few : (es : List Event) → refusals es ≤ length es
+refusals-more : (es : List Event) (e : Event) → refusals (e ∷ es) ≤ suc (refusals es)
 unfolding refusals
-refusals-few [] = omega arith
-refusals-few (e ∷ es) = omega (arith, worth-few (not (accepted (happens (after es) e .answer))), refusals-few es)
+refusals-more es e = omega (arith, worth-few (not (accepted (happens (after es) e .answer))))
 
-readouts-few : (es : List Event) → readoutsIn es ≤ length es
+readouts-more : (es : List Event) (e : Event) → readoutsIn (e ∷ es) ≤ suc (readoutsIn es)
 unfolding readoutsIn
-readouts-few [] = omega arith
-readouts-few (e ∷ es) = omega (arith, worth-few (atRead false readsOut e), readouts-few es)
+readouts-more es e = omega (arith, worth-few (atRead false readsOut e))
 
--- none is larger than the number of events, and no more frames are held than the depth
-pub record Bounded (es : List Event) : Type 0 where
-  pub accepted : countsOf es .accepted ≤ length es
-  pub taken : countsOf es .taken ≤ length es
-  pub lost : countsOf es .lost ≤ length es
-  pub cleared : countsOf es .cleared ≤ length es
-  pub refused : countsOf es .refused ≤ length es
-  pub readouts : countsOf es .readouts ≤ length es
-  pub held : heldNow accelerometer es ≤ 32
+-- none is larger than n
+pub record Bounded (n : ℕ) (c : Counts) : Type 0 where
+  pub accepted : c .accepted ≤ n
+  pub taken : c .taken ≤ n
+  pub lost : c .lost ≤ n
+  pub cleared : c .cleared ≤ n
+  pub refused : c .refused ≤ n
+  pub readouts : c .readouts ≤ n
 
-pub bounded : (es : List Event) → Bounded es
-bounded es =
+bounded-by : (n : ℕ) (es : List Event) → countsOf es .accepted ≤ n → refusals es ≤ n → readoutsIn es ≤ n → Bounded n (countsOf es)
+bounded-by n es few refused readouts =
     let whole = over-clears-here es .whole in
-    let few = accepted-few es in
     record {
       accepted = few;
       taken = omega (arith, whole, few);
       lost = omega (arith, whole, few);
       cleared = omega (arith, whole, few);
-      refused = refusals-few es;
-      readouts = readouts-few es;
-      held = omega (arith, demand3 es .few, over-clears-here es .held);
+      refused = refused;
+      readouts = readouts;
     }
+
+-- one event more counts one more
+bounded-next : {n : ℕ} (es : List Event) (e : Event) → Bounded n (countsOf es) → Bounded (suc n) (countsOf (e ∷ es))
+bounded-next {n} es e few =
+    bounded-by (suc n) (e ∷ es)
+    (omega (arith, accepted-more es e, few .accepted))
+    (omega (arith, refusals-more es e, few .refused))
+    (omega (arith, readouts-more es e, few .readouts))
+
+-- and so none is larger than the number of records
+no-counts : Bounded 0 (countsOf [])
+unfolding totals refusals readoutsIn
+no-counts = record { accepted = omega arith; taken = omega arith; lost = omega arith; cleared = omega arith; refused = omega arith; readouts = omega arith }
+
+pub bounded : (rs : List Recorded) → Bounded (length rs) (countsOf (eventsOf rs))
+bounded [] = no-counts
+bounded (r ∷ rs) = bounded-next (beforeOwn r rs) (r .own) (subst (Bounded (length rs)) (sym (counts-wait r rs)) (bounded rs))
+
+-- no more frames are held than the depth
+held-few : (es : List Event) → heldNow accelerometer es ≤ 32
+held-few es = omega (arith, demand3 es .few, over-clears-here es .held)
 
 -- ---- what one event more adds to the counts
 -- below 2 ^ 64 nothing wraps
@@ -186,31 +222,31 @@ module _ (es : List Event) (e : Event) where
   held-same : saysHere es e ≡ nothing → heldBehind ≡ heldBefore
   held-same q = next-held accelerometer es e nothing q (setting es) (lawful .keeps es e (rw q))
 
-  module _ (room : suc (length es) < 2 ^ 64) where
+  module _ {n : ℕ} (below : Bounded n (countsOf es)) (room : suc n < 2 ^ 64) where
     abbrev answer : Answer
     answer = happens (after es) e .answer
 
     refused-next : sum (refusals es) (refusedBy answer) ≡ refusals (e ∷ es)
     unfolding refusals
-    refused-next = omega (arith, refused-is (accepted answer), refusals-few es, worth-few (not (accepted answer)))
+    refused-next = omega (arith, refused-is (accepted answer), below .refused, worth-few (not (accepted answer)))
 
     -- a count grows by so many, and stays below 2 ^ 64
-    more : (a b k : ℕ) → b ≡ a + k → b ≤ suc (length es) → sum a k ≡ b
-    more a b k p few = omega arith
+    more : (a b k : ℕ) → b ≡ a + k → b ≤ suc n → sum a k ≡ b
+    more a b k p small = omega arith
 
     -- what it takes and clears away, with k readouts more
     read-is : (out away k : ℕ) → countsOf (e ∷ es) .accepted ≡ countsOf es .accepted → countsOf (e ∷ es) .taken ≡ countsOf es .taken + out
         → countsOf (e ∷ es) .lost ≡ countsOf es .lost → countsOf (e ∷ es) .cleared ≡ countsOf es .cleared + away
         → readoutsIn (e ∷ es) ≡ readoutsIn es + k → counts.withReadouts (left (countsOf es) out away (refusedBy answer)) k ≡ countsOf (e ∷ es)
     read-is out away k a t l c r =
-        let few = bounded (e ∷ es) in
+        let now = bounded-next es e below in
         λ i. record {
           accepted = sym a i;
-          taken = more (countsOf es .taken) (countsOf (e ∷ es) .taken) out t (few .taken) i;
+          taken = more (countsOf es .taken) (countsOf (e ∷ es) .taken) out t (now .taken) i;
           lost = sym l i;
-          cleared = more (countsOf es .cleared) (countsOf (e ∷ es) .cleared) away c (few .cleared) i;
+          cleared = more (countsOf es .cleared) (countsOf (e ∷ es) .cleared) away c (now .cleared) i;
           refused = refused-next i;
-          readouts = more (readoutsIn es) (readoutsIn (e ∷ es)) k r (few .readouts) i;
+          readouts = more (readoutsIn es) (readoutsIn (e ∷ es)) k r (now .readouts) i;
         }
 
     no-readout : atRead false readsOut e ≡ false → readoutsIn (e ∷ es) ≡ readoutsIn es
@@ -222,7 +258,7 @@ module _ (es : List Event) (e : Event) where
         → atRead false readsOut e ≡ false → left (countsOf es) out away (refusedBy answer) ≡ countsOf (e ∷ es)
     left-is out away a t l c r =
         let none = no-readout r in
-        let same : sum (readoutsIn es) 0 ≡ readoutsIn es = sum-is (readoutsIn es) 0 (omega (arith, readouts-few es)) ∙ omega arith in
+        let same : sum (readoutsIn es) 0 ≡ readoutsIn es = sum-is (readoutsIn es) 0 (omega (arith, below .readouts)) ∙ omega arith in
         let now = left (countsOf es) out away (refusedBy answer) in
         (λ i. record { accepted = now .accepted; taken = now .taken; lost = now .lost; cleared = now .cleared; refused = now .refused; readouts = sym same i })
         ∙ read-is out away 0 a t l c (omega (arith, none))
@@ -230,21 +266,21 @@ module _ (es : List Event) (e : Event) where
     cleared-counts : saysHere es e ≡ cleared → atRead false readsOut e ≡ false → left (countsOf es) 0 (less heldBefore heldBehind) (refusedBy answer) ≡ countsOf (e ∷ es)
     cleared-counts q r =
         let t = next-totals accelerometer es e cleared q in
-        let gone : less heldBefore heldBehind ≡ heldBefore = omega (arith, held-cleared q, bounded es .held) in
+        let gone : less heldBefore heldBehind ≡ heldBefore = omega (arith, held-cleared q, held-few es) in
         left-is 0 (less heldBefore heldBehind) (ap (λ n. n .accepted) t) (omega (arith, ap (λ n. n .taken) t)) (ap (λ n. n .lost) t) (omega (arith, ap (λ n. n .clearedAway) t, gone)) r
 
     read-counts : (n k : ℕ) → saysHere es e ≡ readOut n → readoutsIn (e ∷ es) ≡ readoutsIn es + k
         → counts.withReadouts (left (countsOf es) (less heldBefore heldBehind) 0 (refusedBy answer)) k ≡ countsOf (e ∷ es)
     read-counts n k q r =
         let t = next-totals accelerometer es e (readOut n) q in
-        let gone : less heldBefore heldBehind ≡ min heldBefore (begun (setting es .size) n) = omega (arith, held-read n q, bounded es .held) in
+        let gone : less heldBefore heldBehind ≡ min heldBefore (begun (setting es .size) n) = omega (arith, held-read n q, held-few es) in
         read-is (less heldBefore heldBehind) 0 k (ap (λ n. n .accepted) t) (omega (arith, ap (λ n. n .taken) t, gone)) (ap (λ n. n .lost) t) (omega (arith, ap (λ n. n .clearedAway) t)) r
 
     unread-counts : (k : ℕ) → saysHere es e ≡ nothing → readoutsIn (e ∷ es) ≡ readoutsIn es + k
         → counts.withReadouts (left (countsOf es) (less heldBefore heldBehind) 0 (refusedBy answer)) k ≡ countsOf (e ∷ es)
     unread-counts k q r =
         let t = next-totals accelerometer es e nothing q in
-        let gone : less heldBefore heldBehind ≡ 0 = omega (arith, held-same q, bounded es .held) in
+        let gone : less heldBefore heldBehind ≡ 0 = omega (arith, held-same q, held-few es) in
         read-is (less heldBefore heldBehind) 0 k (ap (λ n. n .accepted) t) (omega (arith, ap (λ n. n .taken) t, gone)) (ap (λ n. n .lost) t) (omega (arith, ap (λ n. n .clearedAway) t)) r
 
     same-counts : saysHere es e ≡ nothing → atRead false readsOut e ≡ false → left (countsOf es) 0 0 (refusedBy answer) ≡ countsOf (e ∷ es)
@@ -253,7 +289,7 @@ module _ (es : List Event) (e : Event) where
         left-is 0 0 (ap (λ n. n .accepted) t) (omega (arith, ap (λ n. n .taken) t)) (ap (λ n. n .lost) t) (omega (arith, ap (λ n. n .clearedAway) t)) r
 
     none-gone : saysHere es e ≡ nothing → less heldBefore heldBehind ≡ 0
-    none-gone q = omega (arith, held-same q, bounded es .held)
+    none-gone q = omega (arith, held-same q, held-few es)
 
     -- a sample that comes when the FIFO is full makes no frame more
     one-lost : (f : List ℕ) → saysHere es e ≡ sampled f → less (sum heldBefore 1) heldBehind ≡ worth 1 (eqb heldBefore (setting es .depth))
@@ -263,8 +299,8 @@ module _ (es : List Event) (e : Event) where
         fits = few (setting es) (lawful .some-deep es) (lawful .one es) (since accelerometer es)
 
         go : (t : Bool) → eqb heldBefore (setting es .depth) ≡ t → less (sum heldBefore 1) heldBehind ≡ worth 1 t
-        go true h = omega (arith, eqb-true heldBefore (setting es .depth) h, held-sampled f q, bounded es .held)
-        go false h = omega (arith, eqb-false heldBefore (setting es .depth) h, held-sampled f q, fits, bounded es .held)
+        go true h = omega (arith, eqb-true heldBefore (setting es .depth) h, held-sampled f q, held-few es)
+        go false h = omega (arith, eqb-false heldBefore (setting es .depth) h, held-sampled f q, fits, held-few es)
 
     none-refused : accepted answer ≡ true → refusals es ≡ refusals (e ∷ es)
     unfolding refusals
@@ -273,13 +309,13 @@ module _ (es : List Event) (e : Event) where
     sampled-counts : (f : List ℕ) → saysHere es e ≡ sampled f → accepted answer ≡ true → atRead false readsOut e ≡ false → arrived (countsOf es) (less (sum heldBefore 1) heldBehind) ≡ countsOf (e ∷ es)
     sampled-counts f q ok r =
         let t = next-totals accelerometer es e (sampled f) q in
-        let few = bounded (e ∷ es) in
+        let now = bounded-next es e below in
         let over = less (sum heldBefore 1) heldBehind in
         let one : over ≡ worth 1 (eqb heldBefore (setting es .depth)) = one-lost f q in
         λ i. record {
-          accepted = more (countsOf es .accepted) (countsOf (e ∷ es) .accepted) 1 (omega (arith, ap (λ n. n .accepted) t)) (few .accepted) i;
+          accepted = more (countsOf es .accepted) (countsOf (e ∷ es) .accepted) 1 (omega (arith, ap (λ n. n .accepted) t)) (now .accepted) i;
           taken = sym (ap (λ n. n .taken) t) i;
-          lost = more (countsOf es .lost) (countsOf (e ∷ es) .lost) over (ap (λ n. n .lost) t ∙ rw one) (few .lost) i;
+          lost = more (countsOf es .lost) (countsOf (e ∷ es) .lost) over (ap (λ n. n .lost) t ∙ rw one) (now .lost) i;
           cleared = sym (ap (λ n. n .clearedAway) t) i;
           refused = none-refused ok i;
           readouts = sym (no-readout r) i;
@@ -299,86 +335,112 @@ readouts-next es a n = omega (arith, go (eqb a framesAt) (accepted (readAnswer a
     go false true = refl
     go false false = refl
 
-counts-next : (es : List Event) (e : Event) → suc (length es) < 2 ^ 64 → Counted es e
+counts-next : {n : ℕ} (es : List Event) (e : Event) → Bounded n (countsOf es) → suc n < 2 ^ 64 → Counted es e
 unfolding countsAfter saysHere sampleOf readOf
-counts-next es powerUp room = cleared-counts es powerUp room refl refl
-counts-next es (write a byte) room = go (clears a byte) refl
+counts-next es powerUp few room = cleared-counts es powerUp few room refl refl
+counts-next es (write a byte) few room = go (clears a byte) refl
   where
     go : (t : Bool) → clears a byte ≡ t → Counted es (write a byte)
-    go true q = cleared-counts es (write a byte) room (rw q) refl
-    go false q = rw (none-gone es (write a byte) room (rw q)) (same-counts es (write a byte) room (rw q) refl)
-counts-next es (read a n) room = go (readsOut a n) refl
+    go true q = cleared-counts es (write a byte) few room (rw q) refl
+    go false q = rw (none-gone es (write a byte) few room (rw q)) (same-counts es (write a byte) few room (rw q) refl)
+counts-next es (read a n) few room = go (readsOut a n) refl
   where
     go : (t : Bool) → readsOut a n ≡ t → Counted es (read a n)
-    go true q = read-counts es (read a n) room n (readoutsBy a (readAnswer a n)) (rw q) (readouts-next es a n)
-    go false q = unread-counts es (read a n) room (readoutsBy a (readAnswer a n)) (rw q) (readouts-next es a n)
-counts-next es (sample x y z temperature) room = go (accepted (sampleAnswer x y z)) refl
+    go true q = read-counts es (read a n) few room n (readoutsBy a (readAnswer a n)) (rw q) (readouts-next es a n)
+    go false q = unread-counts es (read a n) few room (readoutsBy a (readAnswer a n)) (rw q) (readouts-next es a n)
+counts-next es (sample x y z temperature) few room = go (accepted (sampleAnswer x y z)) refl
   where
     go : (t : Bool) → accepted (sampleAnswer x y z) ≡ t → Counted es (sample x y z temperature)
-    go true q = rw q (sampled-counts es (sample x y z temperature) room (frame (axesOf (control es)) x y z) (rw q) q refl)
-    go false q = rw q (rw q at (same-counts es (sample x y z temperature) room (rw q) refl))
-counts-next es cycle room = same-counts es cycle room refl refl
-counts-next es (clock us) room = same-counts es (clock us) room refl refl
+    go true q = rw q (sampled-counts es (sample x y z temperature) few room (frame (axesOf (control es)) x y z) (rw q) q refl)
+    go false q = rw q (rw q at (same-counts es (sample x y z temperature) few room (rw q) refl))
+counts-next es cycle few room = same-counts es cycle few room refl refl
+counts-next es (clock us) few room = same-counts es (clock us) few room refl refl
 
 -- ---- doubts
-number-next : (es : List Event) → suc (length es) < 2 ^ 64 → sum (length es) 1 ≡ suc (length es)
-number-next es room = sum-is (length es) 1 (omega arith) ∙ omega arith
+number-next : (n : ℕ) → suc n < 2 ^ 64 → sum n 1 ≡ suc n
+number-next n room = sum-is n 1 (omega arith) ∙ omega arith
 
 -- a write to a register whose undefined codes are what is refused there, whatever the registers hold
 module _ (about : ℕ) (undefined : ℕ → Bool) (refuses : (regs : List ℕ) (byte : ℕ) → accepted (writeAnswer regs about byte) ≡ not (undefined byte)) where
-  doubt-written : (es : List Event) (regs : List ℕ) (a byte : ℕ) → suc (length es) < 2 ^ 64
-      → doubtAfter (doubtOf about undefined es) about a byte (writeAnswer regs a byte) (sum (length es) 1) ≡ doubtOf about undefined (write a byte ∷ es)
-  unfolding doubtAfter doubtOf
-  doubt-written es regs a byte room = rw (number-next es room) (go (eqb a about) refl)
+  doubt-written : (before : Doubt) (number : ℕ) (regs : List ℕ) (a byte : ℕ)
+      → doubtAfter before about a byte (writeAnswer regs a byte) number ≡ doubtBehind about undefined before number (write a byte)
+  unfolding doubtAfter
+  doubt-written before number regs a byte = go (eqb a about) refl
     where
-      turned : (t : Bool) → pick (not t) No (By byte (suc (length es))) ≡ pick t (By byte (suc (length es))) No
+      turned : (t : Bool) → pick (not t) No (By byte number) ≡ pick t (By byte number) No
       turned true = refl
       turned false = refl
 
       go : (t : Bool) → eqb a about ≡ t
-          → pick (isReset a byte) No (pick t (pick (accepted (writeAnswer regs a byte)) No (By byte (suc (length es)))) (doubtOf about undefined es))
-          ≡ pick (isReset a byte) No (pick t (pick (undefined byte) (By byte (suc (length es))) No) (doubtOf about undefined es))
+          → pick (isSoftReset a byte) No (pick t (pick (accepted (writeAnswer regs a byte)) No (By byte number)) before)
+          ≡ pick (isSoftReset a byte) No (pick t (pick (undefined byte) (By byte number) No) before)
       go true e = rw (eqb-true a about e, refuses regs byte, turned)
       go false e = refl
 
-doubts-next : (es : List Event) (e : Event) → suc (length es) < 2 ^ 64 → doubtsBehind (doubtsOf es) e (happens (after es) e .answer) (sum (length es) 1) ≡ doubtsOf (e ∷ es)
-unfolding doubtOf writeOf judgement
-doubts-next es powerUp room = refl
-doubts-next es (write a byte) room = λ i. record {
-  range = doubt-written rangeAt noRange range-accepted es (after es .regs) a byte room i;
-  mode = doubt-written controlAt noMode control-accepted es (after es .regs) a byte room i;
+-- behind an event that is the own one of a record
+abbrev Doubted : List Recorded → ℕ → List Event → Event → Type 0
+Doubted rs number es e = doubtsBehind (doubtsOf rs) e (happens (after es) e .answer) number
+    ≡ record { range = doubtBehind rangeAt noRange (doubtsOf rs .range) number e; mode = doubtBehind controlAt noMode (doubtsOf rs .mode) number e }
+
+doubts-next : (rs : List Recorded) (number : ℕ) (es : List Event) (e : Event) → Doubted rs number es e
+unfolding writeOf judgement
+doubts-next rs number es powerUp = refl
+doubts-next rs number es (write a byte) = λ i. record {
+  range = doubt-written rangeAt noRange range-accepted (doubtsOf rs .range) number (after es .regs) a byte i;
+  mode = doubt-written controlAt noMode control-accepted (doubtsOf rs .mode) number (after es .regs) a byte i;
 }
-doubts-next es (read a n) room = refl
-doubts-next es (sample x y z temperature) room = refl
-doubts-next es cycle room = refl
-doubts-next es (clock us) room = refl
+doubts-next rs number es (read a n) = refl
+doubts-next rs number es (sample x y z temperature) = refl
+doubts-next rs number es cycle = refl
+doubts-next rs number es (clock us) = refl
+
+-- what has nothing to do with a register leaves what is doubted of it as it is
+pub doubt-kept : (about : ℕ) (undefined : ℕ → Bool) (before : Doubt) (number : ℕ) (e : Event) → isOf about e ≡ false
+    → doubtBehind about undefined before number e ≡ before
+doubt-kept about undefined before number powerUp h = cc
+doubt-kept about undefined before number (write a byte) h = go (isSoftReset a byte) (eqb a about) h
+  where
+    go : (r s : Bool) → either r s ≡ false → pick r No (pick s (pick (undefined byte) (By byte number) No) before) ≡ before
+    go true s h = cc
+    go false true h = cc
+    go false false h = refl
+doubt-kept about undefined before number (read a n) h = refl
+doubt-kept about undefined before number (sample x y z temperature) h = refl
+doubt-kept about undefined before number cycle h = refl
+doubt-kept about undefined before number (clock us) h = refl
 
 -- ---- the account
 pub account-first : firstAccount ≡ accountOf []
 unfolding totals refusals readoutsIn doubtOf bank firstBytes theTable rangeOf modeOf control heldAfter since
 account-first = refl
 
--- one event more: the account is stepped by the event, its answer, and the range, the mode and the frames held behind it
-pub account-next : (es : List Event) (e : Event) → suc (length es) < 2 ^ 64
-    → accountAfter (accountOf es) e (happens (after es) e .answer) (rangeIn (after (e ∷ es))) (modeIn (after (e ∷ es))) (heldIn (after (e ∷ es))) ≡ accountOf (e ∷ es)
-unfolding accountAfter
-account-next es e room =
-    let answer = happens (after es) e .answer in
+-- one record more: the account is stepped by its own event, the answer, and the range, the mode and the frames held behind it
+pub account-next : (rs : List Recorded) (r : Recorded) → suc (length rs) < 2 ^ 64
+    → let behind = after (eventsOf (r ∷ rs)) in
+    accountAfter (accountOf rs) (r .own) (answerTo r rs) (rangeIn behind) (modeIn behind) (heldIn behind) ≡ accountOf (r ∷ rs)
+unfolding accountAfter doubtOf
+account-next rs r room =
+    let es = beforeOwn r rs in
+    let e = r .own in
+    let answer = answerTo r rs in
+    let few : Bounded (length rs) (countsOf es) = subst (Bounded (length rs)) (sym (counts-wait r rs)) (bounded rs) in
+    let number = number-next (length rs) room in
     let held = held-is (e ∷ es) in
-    let counts : countsAfter (countsOf es) e answer (heldNow accelerometer es) (heldIn (after (e ∷ es))) ≡ countsOf (e ∷ es) = rw held (counts-next es e room) in
+    let counts : countsAfter (countsOf (eventsOf rs)) e answer (heldNow accelerometer (eventsOf rs)) (heldIn (after (e ∷ es))) ≡ countsOf (e ∷ es)
+    = (λ i. countsAfter (sym (counts-wait r rs) i) e answer (sym (held-wait r rs) i) (held i)) ∙ counts-next es e few room in
     λ i. record {
-      number = number-next es room i;
+      number = number i;
       counts = counts i;
-      doubts = doubts-next es e room i;
+      doubts = (ap (doubtsBehind (doubtsOf rs) e answer) number ∙ doubts-next rs (suc (length rs)) es e) i;
       range = range-is (e ∷ es) i;
       mode = mode-is (e ∷ es) i;
       held = held i;
     }
 
-pub account-is : (es : List Event) → length es < 2 ^ 64 → stepped es ≡ accountOf es
+pub account-is : (rs : List Recorded) → length rs < 2 ^ 64 → stepped rs ≡ accountOf rs
 unfolding stepped
 account-is [] room = account-first
-account-is (e ∷ es) room = rw (account-is es (omega arith)) (account-next es e room)
+account-is (r ∷ rs) room = rw (account-is rs (omega arith)) (account-next rs r room)
 
 -- ---- between two histories
 totals-grow : (es : List Event) (e : Event) → Grown (countsOf es) (countsOf (e ∷ es))
@@ -394,10 +456,10 @@ totals-grow es e = go (saysHere es e) (worth 1 (not (accepted (happens (after es
     go nothing more out = record { accepted = omega arith; taken = omega arith; lost = omega arith; cleared = omega arith; refused = omega arith; readouts = omega arith }
 
 -- no count falls
-pub grows : (later earlier : List Event) → Grown (countsOf earlier) (countsOf (later ++ earlier))
-grows [] earlier = record { accepted = omega arith; taken = omega arith; lost = omega arith; cleared = omega arith; refused = omega arith; readouts = omega arith }
-grows (e ∷ later) earlier =
-    let g = grows later earlier in
+events-grow : (later earlier : List Event) → Grown (countsOf earlier) (countsOf (later ++ earlier))
+events-grow [] earlier = record { accepted = omega arith; taken = omega arith; lost = omega arith; cleared = omega arith; refused = omega arith; readouts = omega arith }
+events-grow (e ∷ later) earlier =
+    let g = events-grow later earlier in
     let h = totals-grow (later ++ earlier) e in
     record {
       accepted = omega (arith, g .accepted, h .accepted);
@@ -408,17 +470,24 @@ grows (e ∷ later) earlier =
       readouts = omega (arith, g .readouts, h .readouts);
     }
 
-pub conserved : (later earlier : List Event) → Conserved (accountOf earlier) (accountOf (later ++ earlier))
+pub grows : (later earlier : List Recorded) → Grown (countsOf (eventsOf earlier)) (countsOf (eventsOf (later ++ earlier)))
+grows later earlier = rw (events-append later earlier) (events-grow (eventsOf later) (eventsOf earlier))
+
+pub conserved : (later earlier : List Recorded) → Conserved (accountOf earlier) (accountOf (later ++ earlier))
 conserved later earlier =
     let g = grows later earlier in
-    record { whole = omega (arith, over-clears-here earlier .whole, over-clears-here (later ++ earlier) .whole, g .accepted, g .taken, g .lost, g .cleared) }
+    let before = over-clears-here (eventsOf earlier) .whole in
+    let behind = over-clears-here (eventsOf (later ++ earlier)) .whole in
+    record { whole = omega (arith, before, behind, g .accepted, g .taken, g .lost, g .cleared) }
 
--- below 2 ^ 64 events the differences of the account are plain ones
-pub differences-are : (later earlier : List Event) → length (later ++ earlier) < 2 ^ 64
-    → differences (countsOf earlier) (countsOf (later ++ earlier)) ≡ apart (countsOf earlier) (countsOf (later ++ earlier))
+-- below 2 ^ 64 records the differences of the account are plain ones
+pub differences-are : (later earlier : List Recorded) → length (later ++ earlier) < 2 ^ 64
+    → let from = countsOf (eventsOf earlier) in
+    let to = countsOf (eventsOf (later ++ earlier)) in
+    differences from to ≡ apart from to
 differences-are later earlier room =
-    let from = countsOf earlier in
-    let to = countsOf (later ++ earlier) in
+    let from = countsOf (eventsOf earlier) in
+    let to = countsOf (eventsOf (later ++ earlier)) in
     let g = grows later earlier in
     let few = bounded (later ++ earlier) in
     λ i. record {

@@ -1,4 +1,5 @@
--- The account, from the events alone: what the histories say of a log. In a history the latest event stands first.
+-- The account, from the records alone: what the histories say of a log. Numbers are of records, counts those of their events. In a history
+-- the latest stands first.
 use Prim.Native.Nat.{ℕ, suc, _+_, _-_, _≤_}
 use mathlib.Core.Bool.{Bool, false, not}
 use mathlib.Core.List.{List, [], _∷_, _++_}
@@ -12,15 +13,16 @@ use Rattle.codes.specs.Addresses.{rangeAt, controlAt}
 use Rattle.codes.specs.Mode.{modeOf, isReservedMode}
 use Rattle.codes.specs.Range.{rangeOf, isReservedRange}
 use Rattle.registers.specs.Answers.{accepted}
-use Rattle.registers.specs.Deeds.{isReset}
 use Rattle.device.specs.Show.{heldIn, rangeIn, modeIn}
 use Rattle.events.specs.Bank.{stored}
 use Rattle.events.specs.Event.{Event, powerUp, write, read, sample, cycle, clock, happens}
 use Rattle.events.specs.Run.{after}
 use Rattle.events.specs.Views.{isPowerUp, atWrite, atRead}
+use Rattle.paper.specs.Stored.{isSoftReset}
 use Rattle.fifo.specs.Ledger.{Fate, held, lost}
 use Rattle.history.specs.History.{accelerometer, readsOut, control}
 use Rattle.demand3.specs.Whole.{heldNow, totals}
+use Rattle.recorded.specs.Recorded.{Recorded, eventsOf, answerTo}
 use Rattle.counts.specs.declared.Account.{Account}
 use Rattle.counts.specs.declared.Counts.{Counts}
 use Rattle.counts.specs.declared.Doubt.{Doubt}
@@ -30,6 +32,10 @@ use Rattle.counts.specs.declared.Why.{Why}
 use Rattle.counts.specs.declared.Why.the-variants as why
 use Rattle.counts.specs.Counts.{ends, firstAccount}
 use Rattle.account.specs.Account.{accountAfter}
+
+-- "since power-up or soft reset"
+abbrev pub startsAnew : Event → Bool
+startsAnew e = either (isPowerUp e) (atWrite false isSoftReset e)
 
 -- how many events the device refused
 unfoldable pub refusals : List Event → ℕ
@@ -55,17 +61,15 @@ countsOf es =
     }
 
 -- what the register at an address sets is in doubt while the last write to it since power-up or soft reset was a refused one, of a code
--- that the sheet does not define: the number of that event, and its byte
-unfoldable pub doubtOf : ℕ → (ℕ → Bool) → List Event → Doubt
+-- that the sheet does not define: the number of that record, and its byte
+abbrev pub doubtBehind : ℕ → (ℕ → Bool) → Doubt → ℕ → Event → Doubt
+doubtBehind about undefined before number e =
+    pick (startsAnew e) No
+    (atWrite before (λ a byte. pick (eqb a about) (pick (undefined byte) (By byte number) No) before) e)
+
+unfoldable pub doubtOf : ℕ → (ℕ → Bool) → List Recorded → Doubt
 doubtOf about undefined [] = No
-doubtOf about undefined (powerUp ∷ es) = No
-doubtOf about undefined (write a byte ∷ es) =
-    pick (isReset a byte) No
-    (pick (eqb a about) (pick (undefined byte) (By byte (suc (length es))) No) (doubtOf about undefined es))
-doubtOf about undefined (read a n ∷ es) = doubtOf about undefined es
-doubtOf about undefined (sample x y z temperature ∷ es) = doubtOf about undefined es
-doubtOf about undefined (cycle ∷ es) = doubtOf about undefined es
-doubtOf about undefined (clock us ∷ es) = doubtOf about undefined es
+doubtOf about undefined (r ∷ rs) = doubtBehind about undefined (doubtOf about undefined rs) (suc (length rs)) (r .own)
 
 -- of the range, at 0x0F: "every other low nibble is refused 2"; of the mode, at 0x3E: "11 is refused 2"
 abbrev pub noRange : ℕ → Bool
@@ -74,64 +78,74 @@ noRange byte = isReservedRange (rangeOf byte)
 abbrev pub noMode : ℕ → Bool
 noMode byte = isReservedMode (modeOf byte)
 
-abbrev pub doubtsOf : List Event → Doubts
-doubtsOf es = record { range = doubtOf rangeAt noRange es; mode = doubtOf controlAt noMode es }
+abbrev pub doubtsOf : List Recorded → Doubts
+doubtsOf rs = record { range = doubtOf rangeAt noRange rs; mode = doubtOf controlAt noMode rs }
 
 -- what is known after a history: the range is by the byte that 0x0F stores, the mode by that of 0x3E since the last clear, and the frames
 -- held are the ledger's
-abbrev pub accountOf : List Event → Account
-accountOf es = record {
-  number = length es;
-  counts = countsOf es;
-  doubts = doubtsOf es;
-  range = rangeOf (stored es rangeAt);
-  mode = modeOf (control es);
-  held = heldNow accelerometer es;
-}
+abbrev pub accountOf : List Recorded → Account
+accountOf rs =
+    let es = eventsOf rs in
+    record {
+      number = length rs;
+      counts = countsOf es;
+      doubts = doubtsOf rs;
+      range = rangeOf (stored es rangeAt);
+      mode = modeOf (control es);
+      held = heldNow accelerometer es;
+    }
 
--- the account that is stepped with the device, one event at a time
-unfoldable pub stepped : List Event → Account
+-- the account that is stepped with the device, one record at a time: by its own event
+unfoldable pub stepped : List Recorded → Account
 stepped [] = firstAccount
-stepped (e ∷ es) = accountAfter (stepped es) e (happens (after es) e .answer) (rangeIn (after (e ∷ es))) (modeIn (after (e ∷ es))) (heldIn (after (e ∷ es)))
+stepped (r ∷ rs) =
+    let behind = after (eventsOf (r ∷ rs)) in
+    accountAfter (stepped rs) (r .own) (answerTo r rs) (rangeIn behind) (modeIn behind) (heldIn behind)
 
 -- why a stretch ends with an event: "a readout: an accepted read at 0x3F; a write to 0x0F, accepted or refused; a soft reset"
 unfoldable pub whyAt : Event → Why
 whyAt powerUp = why.Reset
 whyAt (write a byte) =
-    pick (isReset a byte) why.Reset (pick (eqb a rangeAt) (pick (isReservedRange (rangeOf byte)) why.Refused why.Range) why.Nothing)
+    pick (isSoftReset a byte) why.Reset (pick (eqb a rangeAt) (pick (isReservedRange (rangeOf byte)) why.Refused why.Range) why.Nothing)
 whyAt (read a n) = pick (readsOut a n) why.Readout why.Nothing
 whyAt (sample x y z temperature) = why.Nothing
 whyAt cycle = why.Nothing
 whyAt (clock us) = why.Nothing
 
--- what has to do with the range: "a write to 0x0F, accepted or refused"; "a soft reset"
-abbrev pub isOfRange : Event → Bool
-isOfRange e = either (isPowerUp e) (atWrite false (λ a byte. either (isReset a byte) (eqb a rangeAt)) e)
+-- what has to do with what the register at an address sets: a write to it, accepted or refused; power-up and a soft reset
+abbrev pub isOf : ℕ → Event → Bool
+isOf about e = either (startsAnew e) (atWrite false (λ a byte. eqb a about) e)
 
--- what has to do with the mode: a write to 0x3E, accepted or refused; a soft reset
+abbrev pub isOfRange : Event → Bool
+isOfRange = isOf rangeAt
+
 abbrev pub isOfMode : Event → Bool
-isOfMode e = either (isPowerUp e) (atWrite false (λ a byte. either (isReset a byte) (eqb a controlAt)) e)
+isOfMode = isOf controlAt
 
 -- what ends a stretch: what has to do with the range, and a readout
 abbrev pub isEnd : Event → Bool
 isEnd e = either (atRead false readsOut e) (isOfRange e)
 
 -- the history at the end of the last stretch that has ended: that of power-up where none has
-unfoldable pub lastEnd : List Event → List Event
+unfoldable pub lastEnd : List Recorded → List Recorded
 lastEnd [] = []
-lastEnd (e ∷ es) = pick (ends (whyAt e)) (e ∷ es) (lastEnd es)
+lastEnd (r ∷ rs) = pick (ends (whyAt (r .own))) (r ∷ rs) (lastEnd rs)
 
 -- ---- stretches
 -- a stretch, by the histories at its beginning and at its end, and why it ended
 pub record Stretch : Type 0 where
-  pub from : List Event
-  pub to : List Event
+  pub from : List Recorded
+  pub to : List Recorded
   pub why : Why
 
+-- the one that ends with a record, where one does
+abbrev pub endingWith : Recorded → List Recorded → Stretch
+endingWith r rs = record { from = lastEnd rs; to = r ∷ rs; why = whyAt (r .own) }
+
 -- those that have ended, the latest first
-unfoldable pub stretches : List Event → List Stretch
+unfoldable pub stretches : List Recorded → List Stretch
 stretches [] = []
-stretches (e ∷ es) = pick (ends (whyAt e)) (record { from = lastEnd es; to = e ∷ es; why = whyAt e } ∷ stretches es) (stretches es)
+stretches (r ∷ rs) = pick (ends (whyAt (r .own))) (endingWith r rs ∷ stretches rs) (stretches rs)
 
 -- each begins where the one before it ended, and the first at power-up
 abbrev pub Adjacent : List Stretch → Type 0
@@ -167,20 +181,20 @@ apart from to = record {
 
 -- ---- stretches one after the other
 -- a history is the earlier part of another
-abbrev pub Part : List Event → List Event → Type 0
-Part earlier es = (later : List Event) × (es ≡ later ++ earlier)
+abbrev pub Part : List Recorded → List Recorded → Type 0
+Part earlier rs = (later : List Recorded) × (rs ≡ later ++ earlier)
 
 -- the stretch that has not ended, from the last end on
-abbrev pub unended : List Event → Stretch
-unended es = record { from = lastEnd es; to = es; why = why.Nothing }
+abbrev pub unended : List Recorded → Stretch
+unended rs = record { from = lastEnd rs; to = rs; why = why.Nothing }
 
 -- stretches, the latest first, that lead from the history h to the history k: each begins where the one before it ended
-abbrev pub Between : List Event → List Stretch → List Event → Type 0
+abbrev pub Between : List Recorded → List Stretch → List Recorded → Type 0
 Between h [] k = k ≡ h
 Between h (s ∷ ss) k = (s .to ≡ k) × Part (s .from) (s .to) × Between h ss (s .from)
 
 -- the latest ends at the history k, and where there is none k is that of power-up
-abbrev pub EndAt : List Stretch → List Event → Type 0
+abbrev pub EndAt : List Stretch → List Recorded → Type 0
 EndAt [] k = k ≡ []
 EndAt (s ∷ ss) k = s .to ≡ k
 
@@ -195,7 +209,7 @@ over f (s ∷ ss) = f s + over f ss
 
 -- what was counted in one, and in all together
 abbrev pub inside : Stretch → Counts
-inside s = apart (countsOf (s .from)) (countsOf (s .to))
+inside s = apart (countsOf (eventsOf (s .from))) (countsOf (eventsOf (s .to)))
 
 abbrev pub together : List Stretch → Counts
 together ss = record {

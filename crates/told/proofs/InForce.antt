@@ -1,5 +1,5 @@
 -- What the words say of the range and the mode in force: a line is told exactly where one of them, or what is doubted of it, is not what it
--- was, which only an event can do that has to do with it; and the frames that are said are those that the FIFO can hold.
+-- was, which only a record can do that has to do with it; and the frames that are said are those that the FIFO can hold.
 -- Assumes nothing.
 use Prim.Native.Nat.{ℕ}
 use mathlib.Core.Bool.{true, false}
@@ -12,8 +12,8 @@ use Rattle.codes.specs.declared.Mode.{Mode}
 use Rattle.codes.specs.declared.Mode.the-variants.{Bypass, Fifo, Stream, Reserved}
 use Rattle.fifo.specs.Setting.{depthIn}
 use Rattle.device.specs.Device.{depth}
-use Rattle.events.specs.Event.{Event}
 use Rattle.history.specs.History.{control, setting}
+use Rattle.recorded.specs.Recorded.{Recorded, eventsOf}
 use Rattle.text.specs.Text.{ascii, decimal, lastDigits}
 use Rattle.wording.specs.Wording.{framesWord}
 use Rattle.counts.specs.Counts.{isSameRange, isSameMode}
@@ -22,12 +22,12 @@ use Rattle.stretches.specs.Histories.{accountOf, isOfRange, isOfMode}
 use Rattle.stretches.proofs.Modes.{mode-known, mode-stays}
 use Rattle.stretches.proofs.Ranges.{range-kept}
 
--- no line is told behind an event that has nothing to do with it
-pub range-untold : (e : Event) (es : List Event) → isOfRange e ≡ false → isSameRange (accountOf (e ∷ es)) (accountOf es) ≡ true
-range-untold e es h = same-range-is (accountOf (e ∷ es)) (accountOf es) .1 (range-kept e es h)
+-- no line is told behind a record that has nothing to do with it
+pub range-untold : (r : Recorded) (rs : List Recorded) → isOfRange (r .own) ≡ false → isSameRange (accountOf (r ∷ rs)) (accountOf rs) ≡ true
+range-untold r rs h = same-range-is (accountOf (r ∷ rs)) (accountOf rs) .1 (range-kept r rs h)
 
-pub mode-untold : (e : Event) (es : List Event) → isOfMode e ≡ false → isSameMode (accountOf (e ∷ es)) (accountOf es) ≡ true
-mode-untold e es h = same-mode-is (accountOf (e ∷ es)) (accountOf es) .1 (mode-stays e es h)
+pub mode-untold : (r : Recorded) (rs : List Recorded) → isOfMode (r .own) ≡ false → isSameMode (accountOf (r ∷ rs)) (accountOf rs) ≡ true
+mode-untold r rs h = same-mode-is (accountOf (r ∷ rs)) (accountOf rs) .1 (mode-stays r rs h)
 
 -- ---- how deep the FIFO is
 -- "Depth is 32 in FIFO and STREAM, 1 in BYPASS": so many frames, in words
@@ -41,5 +41,5 @@ deep-said Fifo h = refl
 deep-said Stream h = refl
 deep-said Reserved h = cc
 
-pub frames-said : (es : List Event) → framesWord (accountOf es .mode) ≡ framesFor (setting es .depth)
-frames-said es = deep-said (modeOf (control es)) (mode-known es)
+pub frames-said : (rs : List Recorded) → framesWord (accountOf rs .mode) ≡ framesFor (setting (eventsOf rs) .depth)
+frames-said rs = deep-said (modeOf (control (eventsOf rs))) (mode-known rs)

@@ -12,10 +12,10 @@ use lib.ListN.{length, length-append}
 use borrow.Author.Tests.{eqb-true}
 use Rattle.laws.specs.Choice.{pick}
 use Rattle.laws.proofs.Finite.{of-pick}
-use Rattle.events.specs.Event.{Event}
+use Rattle.recorded.specs.Recorded.{Recorded, eventsOf}
 use Rattle.demand3.specs.Whole.{totals}
 use Rattle.counts.specs.Counts.{ends}
-use Rattle.stretches.specs.Histories.{accountOf, countsOf, refusals, readoutsIn, whyAt, lastEnd, Stretch, stretches, unended, Conserved, apart, Part, Between, Each, over, inside, together}
+use Rattle.stretches.specs.Histories.{accountOf, countsOf, refusals, readoutsIn, whyAt, lastEnd, Stretch, endingWith, stretches, unended, Conserved, apart, Part, Between, Each, over, inside, together}
 use Rattle.counts.specs.declared.Account.{Account}
 use Rattle.counts.specs.declared.Counts.{Counts}
 use Rattle.counts.specs.declared.Why.{Why}
@@ -36,16 +36,16 @@ moded-line : (moded : Bool) (from before behind : Account) (w : Why)
     → lineText (stretchOf moded from before behind w) ≡ pick moded (modedLine from before behind w) (stretchLine from before behind w)
 moded-line moded from before behind w = of-pick lineText moded (line.Moded from before behind w) (line.Stretch from before behind w)
 
--- of a stretch that an event ends, where it does
-pub ended-line : (moded : Bool) (e : Event) (es : List Event)
-    → lineText (endedOf moded (accountOf (lastEnd es)) (accountOf es) (accountOf (e ∷ es)) (whyAt e))
-    ≡ pick (ends (whyAt e)) (lineOf moded (record { from = lastEnd es; to = e ∷ es; why = whyAt e })) []
-ended-line moded e es = go (ends (whyAt e)) refl
+-- of a stretch that a record ends, where it does
+pub ended-line : (moded : Bool) (r : Recorded) (rs : List Recorded)
+    → lineText (endedOf moded (accountOf (lastEnd rs)) (accountOf rs) (accountOf (r ∷ rs)) (whyAt (r .own)))
+    ≡ pick (ends (whyAt (r .own))) (lineOf moded (endingWith r rs)) []
+ended-line moded r rs = go (ends (whyAt (r .own))) refl
   where
-    go : (t : Bool) → ends (whyAt e) ≡ t
-        → lineText (pick t (stretchOf moded (accountOf (lastEnd es)) (accountOf es) (accountOf (e ∷ es)) (whyAt e)) line.Nothing)
-        ≡ pick t (lineOf moded (record { from = lastEnd es; to = e ∷ es; why = whyAt e })) []
-    go true q = moded-line moded (accountOf (lastEnd es)) (accountOf es) (accountOf (e ∷ es)) (whyAt e) ∙ rw q
+    go : (t : Bool) → ends (whyAt (r .own)) ≡ t
+        → lineText (pick t (stretchOf moded (accountOf (lastEnd rs)) (accountOf rs) (accountOf (r ∷ rs)) (whyAt (r .own))) line.Nothing)
+        ≡ pick t (lineOf moded (endingWith r rs)) []
+    go true q = moded-line moded (accountOf (lastEnd rs)) (accountOf rs) (accountOf (r ∷ rs)) (whyAt (r .own)) ∙ rw q
     go false q = refl
 
 -- where the stretches are asked for, with their modes or without
@@ -53,71 +53,71 @@ abbrev pub form : Bool → Asked
 form true = Modes
 form false = Stretches
 
-ended-text : (moded : Bool) (e : Event) (es : List Event) → toldOf (form moded) (e ∷ es)
-    ≡ toldOf (form moded) es ++ pick (ends (whyAt e)) (lineOf moded (record { from = lastEnd es; to = e ∷ es; why = whyAt e })) []
+ended-text : (moded : Bool) (r : Recorded) (rs : List Recorded) → toldOf (form moded) (r ∷ rs)
+    ≡ toldOf (form moded) rs ++ pick (ends (whyAt (r .own))) (lineOf moded (endingWith r rs)) []
 unfolding toldOf
-ended-text true e es = ap (λ l. toldOf Modes es ++ l) (ended-line true e es)
-ended-text false e es = ap (λ l. toldOf Stretches es ++ l) (ended-line false e es)
+ended-text true r rs = ap (λ l. toldOf Modes rs ++ l) (ended-line true r rs)
+ended-text false r rs = ap (λ l. toldOf Stretches rs ++ l) (ended-line false r rs)
 
 -- of those that have ended
-no-events : (moded : Bool) → toldOf (form moded) [] ≡ []
+no-records : (moded : Bool) → toldOf (form moded) [] ≡ []
 unfolding toldOf
-no-events true = refl
-no-events false = refl
+no-records true = refl
+no-records false = refl
 
-pub stretches-told : (moded : Bool) (es : List Event) → toldOf (form moded) es ≡ linesFor moded (stretches es)
+pub stretches-told : (moded : Bool) (rs : List Recorded) → toldOf (form moded) rs ≡ linesFor moded (stretches rs)
 unfolding stretches
-stretches-told moded [] = no-events moded
-stretches-told moded (e ∷ es) = ended-text moded e es ∙ rw (stretches-told moded es) (go (ends (whyAt e)))
+stretches-told moded [] = no-records moded
+stretches-told moded (r ∷ rs) = ended-text moded r rs ∙ rw (stretches-told moded rs) (go (ends (whyAt (r .own))))
   where
     new : Stretch
-    new = record { from = lastEnd es; to = e ∷ es; why = whyAt e }
+    new = endingWith r rs
 
-    go : (t : Bool) → linesFor moded (stretches es) ++ pick t (lineOf moded new) [] ≡ linesFor moded (pick t (new ∷ stretches es) (stretches es))
+    go : (t : Bool) → linesFor moded (stretches rs) ++ pick t (lineOf moded new) [] ≡ linesFor moded (pick t (new ∷ stretches rs) (stretches rs))
     go true = refl
-    go false = append-nil (linesFor moded (stretches es))
+    go false = append-nil (linesFor moded (stretches rs))
 
 -- the rest, where records are left
-pub rest-line : (moded begun : Bool) (es : List Event) (refusal : ℕ)
-    → restText moded begun (accountOf (lastEnd es)) (accountOf es) refusal ≡ restOf moded es ++ lastLine begun (length es) refusal
-rest-line moded begun es refusal = rw (moded-line moded (accountOf (lastEnd es)) (accountOf es) (accountOf es) Nothing)
+pub rest-line : (moded begun : Bool) (rs : List Recorded) (refusal : ℕ)
+    → restText moded begun (accountOf (lastEnd rs)) (accountOf rs) refusal ≡ restOf moded rs ++ lastLine begun (length rs) refusal
+rest-line moded begun rs refusal = rw (moded-line moded (accountOf (lastEnd rs)) (accountOf rs) (accountOf rs) Nothing)
 
 -- of a whole log
-pub stretches-whole : (moded : Bool) (es : List Event) (begun : Bool) (refusal : ℕ)
-    → toldOf (form moded) es ++ endOf (form moded) begun es refusal ≡ linesFor moded (printedStretches es) ++ lastLine begun (length es) refusal
-stretches-whole moded es begun refusal =
-    rw (stretches-told moded es, rest-of moded) (go (eqb (length (lastEnd es)) (length es)))
+pub stretches-whole : (moded : Bool) (rs : List Recorded) (begun : Bool) (refusal : ℕ)
+    → toldOf (form moded) rs ++ endOf (form moded) begun rs refusal ≡ linesFor moded (printedStretches rs) ++ lastLine begun (length rs) refusal
+stretches-whole moded rs begun refusal =
+    rw (stretches-told moded rs, rest-of moded) (go (eqb (length (lastEnd rs)) (length rs)))
   where
     last : List ℕ
-    last = lastLine begun (length es) refusal
+    last = lastLine begun (length rs) refusal
 
-    rest-of : (m : Bool) → endOf (form m) begun es refusal ≡ restOf m es ++ last
-    rest-of true = rest-line true begun es refusal
-    rest-of false = rest-line false begun es refusal
+    rest-of : (m : Bool) → endOf (form m) begun rs refusal ≡ restOf m rs ++ last
+    rest-of true = rest-line true begun rs refusal
+    rest-of false = rest-line false begun rs refusal
 
-    go : (t : Bool) → linesFor moded (stretches es) ++ (pick t [] (lineOf moded (unended es)) ++ last)
-        ≡ linesFor moded (pick t (stretches es) (unended es ∷ stretches es)) ++ last
+    go : (t : Bool) → linesFor moded (stretches rs) ++ (pick t [] (lineOf moded (unended rs)) ++ last)
+        ≡ linesFor moded (pick t (stretches rs) (unended rs ∷ stretches rs)) ++ last
     go true = refl
-    go false = sym (append-assoc (linesFor moded (stretches es)) (lineOf moded (unended es)) last)
+    go false = sym (append-assoc (linesFor moded (stretches rs)) (lineOf moded (unended rs)) last)
 
 -- ---- where they lie
-no-later : (later h : List Event) → length h ≡ length (later ++ h) → later ++ h ≡ h
+no-later : (later h : List Recorded) → length h ≡ length (later ++ h) → later ++ h ≡ h
 no-later [] h e = refl
 no-later (x ∷ later) h e = absurd (omega (arith, length-append later h))
 
 -- they lead from power-up to the end
-pub all-of-lead : (es : List Event) → Between [] (printedStretches es) es
-all-of-lead es = go (eqb (length (lastEnd es)) (length es)) refl
+pub all-of-lead : (rs : List Recorded) → Between [] (printedStretches rs) rs
+all-of-lead rs = go (eqb (length (lastEnd rs)) (length rs)) refl
   where
-    part : Part (lastEnd es) es
-    part = lastEnd-part es
+    part : Part (lastEnd rs) rs
+    part = lastEnd-part rs
 
-    ended : length (lastEnd es) ≡ length es → lastEnd es ≡ es
-    ended e = sym (part .1 ∙ no-later (part .0) (lastEnd es) (e ∙ ap length (part .1)))
+    ended : length (lastEnd rs) ≡ length rs → lastEnd rs ≡ rs
+    ended e = sym (part .1 ∙ no-later (part .0) (lastEnd rs) (e ∙ ap length (part .1)))
 
-    go : (t : Bool) → eqb (length (lastEnd es)) (length es) ≡ t → Between [] (pick t (stretches es) (unended es ∷ stretches es)) es
-    go true p = let l : lastEnd es ≡ es = ended (eqb-true _ _ p) in rw l at (stretches-lead es)
-    go false p = all-lead es
+    go : (t : Bool) → eqb (length (lastEnd rs)) (length rs) ≡ t → Between [] (pick t (stretches rs) (unended rs ∷ stretches rs)) rs
+    go true p = let l : lastEnd rs ≡ rs = ended (eqb-true _ _ p) in rw l at (stretches-lead rs)
+    go false p = all-lead rs
 
 -- ---- what the lines say
 -- numbers that are alike for each stretch add up alike
@@ -143,39 +143,39 @@ added-up-is ss e = λ i. record {
     column : (f : Counts → ℕ) → over (λ s. f (columnsOf s)) ss ≡ over (λ s. f (inside s)) ss
     column f = over-alike (λ s. f (columnsOf s)) (λ s. f (inside s)) ss (each-of f ss e)
 
-module _ (es : List Event) where
+module _ (rs : List Recorded) where
   -- each of them conserves: held before + accepted = taken + lost + cleared + held after
-  pub all-conserve : Each (λ s. Conserved (accountOf (s .from)) (accountOf (s .to))) (printedStretches es)
-  all-conserve = each-conserves (printedStretches es) [] es (all-of-lead es)
+  pub all-conserve : Each (λ s. Conserved (accountOf (s .from)) (accountOf (s .to))) (printedStretches rs)
+  all-conserve = each-conserves (printedStretches rs) [] rs (all-of-lead rs)
 
   -- below 2 ^ 64 records its columns are what was counted in it, and those of all lines add up to what was counted in the log
-  pub all-columns : length es < 2 ^ 64 → Each (λ s. columnsOf s ≡ inside s) (printedStretches es)
-  all-columns room = each-differs (printedStretches es) [] es (all-of-lead es) room
+  pub all-columns : length rs < 2 ^ 64 → Each (λ s. columnsOf s ≡ inside s) (printedStretches rs)
+  all-columns room = each-differs (printedStretches rs) [] rs (all-of-lead rs) room
 
-  pub all-add-up : length es < 2 ^ 64 → addedUp (printedStretches es) ≡ countsOf es
+  pub all-add-up : length rs < 2 ^ 64 → addedUp (printedStretches rs) ≡ countsOf (eventsOf rs)
   unfolding totals refusals readoutsIn
-  all-add-up room = added-up-is (printedStretches es) (all-columns room) ∙ sums (printedStretches es) [] es (all-of-lead es) ∙ from-none
+  all-add-up room = added-up-is (printedStretches rs) (all-columns room) ∙ sums (printedStretches rs) [] rs (all-of-lead rs) ∙ from-none
     where
-      from-none : apart (countsOf []) (countsOf es) ≡ countsOf es
+      from-none : apart (countsOf []) (countsOf (eventsOf rs)) ≡ countsOf (eventsOf rs)
       from-none = simp sub-zero
 
 -- the range of a line, and what is doubted of it, is what it was where the stretch began
 abbrev pub InForce : Stretch → Type 0
 InForce s = SameRange (accountOf (seenAt s)) (accountOf (s .from))
 
-ended-in-force : (es : List Event) → Each InForce (stretches es)
+ended-in-force : (rs : List Recorded) → Each InForce (stretches rs)
 unfolding stretches
 ended-in-force [] = tt
-ended-in-force (e ∷ es) = go (ended-in-force es) (ends (whyAt e)) refl
+ended-in-force (r ∷ rs) = go (ended-in-force rs) (ends (whyAt (r .own))) refl
   where
-    go : Each InForce (stretches es) → (t : Bool) → ends (whyAt e) ≡ t
-        → Each InForce (pick t (record { from = lastEnd es; to = e ∷ es; why = whyAt e } ∷ stretches es) (stretches es))
-    go earlier true q = (rw q (range-lasts es), earlier)
+    go : Each InForce (stretches rs) → (t : Bool) → ends (whyAt (r .own)) ≡ t
+        → Each InForce (pick t (endingWith r rs ∷ stretches rs) (stretches rs))
+    go earlier true q = (rw q (range-lasts rs), earlier)
     go earlier false q = earlier
 
-pub all-in-force : (es : List Event) → Each InForce (printedStretches es)
-all-in-force es = go (eqb (length (lastEnd es)) (length es))
+pub all-in-force : (rs : List Recorded) → Each InForce (printedStretches rs)
+all-in-force rs = go (eqb (length (lastEnd rs)) (length rs))
   where
-    go : (t : Bool) → Each InForce (pick t (stretches es) (unended es ∷ stretches es))
-    go true = ended-in-force es
-    go false = (range-lasts es, ended-in-force es)
+    go : (t : Bool) → Each InForce (pick t (stretches rs) (unended rs ∷ stretches rs))
+    go true = ended-in-force rs
+    go false = (range-lasts rs, ended-in-force rs)

@@ -8,27 +8,26 @@ use lib.ListN.{length}
 use Rattle.laws.specs.Choice.{pick}
 use Rattle.codes.specs.Mode.{modeOf}
 use Rattle.registers.specs.Answers.{accepted, number}
-use Rattle.events.specs.Event.{Event, happens}
-use Rattle.events.specs.Run.{after}
 use Rattle.events.specs.Views.{atWrite, atSample}
 use Rattle.history.specs.History.{accelerometer, control}
 use Rattle.demand3.specs.Whole.{heldNow}
+use Rattle.recorded.specs.Recorded.{Recorded, beforeOwn, answerTo}
 use Rattle.counts.specs.Counts.{differences, ends, isSameRange, isSameMode, backOf}
-use Rattle.stretches.specs.Histories.{countsOf, accountOf, whyAt, lastEnd, Stretch, stretches, unended, Between, over}
+use Rattle.stretches.specs.Histories.{countsOf, accountOf, whyAt, lastEnd, Stretch, endingWith, stretches, unended, Between, over}
 use Rattle.counts.specs.declared.Counts.{Counts}
 use Rattle.wording.specs.Wording.{stretchLine, modedLine, sampleLine, refusedLine, rangeLine, modeLine, totalsLine, lostLine, noReadoutLine}
 
 -- ---- stretches
 -- those that are printed, the latest first: those that have ended and, "only where records are left", the rest
-abbrev pub printedStretches : List Event → List Stretch
-printedStretches es = pick (eqb (length (lastEnd es)) (length es)) (stretches es) (unended es ∷ stretches es)
+abbrev pub printedStretches : List Recorded → List Stretch
+printedStretches rs = pick (eqb (length (lastEnd rs)) (length rs)) (stretches rs) (unended rs ∷ stretches rs)
 
 -- "RANGE in force in the stretch, before its last record acts"; of the rest, which no record ended, at its end
-abbrev pub before : List Event → List Event
+abbrev pub before : List Recorded → List Recorded
 before [] = []
-before (e ∷ es) = es
+before (r ∷ rs) = rs
 
-abbrev pub seenAt : Stretch → List Event
+abbrev pub seenAt : Stretch → List Recorded
 seenAt s = pick (ends (s .why)) (before (s .to)) (s .to)
 
 -- with its mode, or without
@@ -59,53 +58,54 @@ addedUp ss = record {
 
 -- ---- samples
 -- "of each accepted sample a line `sample N X Y Z LOST BACK`", with how many its arrival lost, and which (stretches/proofs/Lost)
-abbrev pub sampleOf : Event → List Event → List ℕ
-sampleOf e es =
+abbrev pub sampleOf : Recorded → List Recorded → List ℕ
+sampleOf r rs =
+    let e = r .own in
+    let es = beforeOwn r rs in
     let lost = countsOf (e ∷ es) .lost - countsOf es .lost in
     let back = backOf lost (modeOf (control es)) (heldNow accelerometer es) in
-    atSample [] (λ x y z temperature. pick (accepted (happens (after es) e .answer)) (sampleLine (suc (length es)) x y z lost back) []) e
+    atSample [] (λ x y z temperature. pick (accepted (answerTo r rs)) (sampleLine (suc (length rs)) x y z lost back) []) e
 
 -- those and the stretches' lines, in order, as their records came
-abbrev pub withSamples : List Event → List ℕ
+abbrev pub withSamples : List Recorded → List ℕ
 withSamples [] = []
-withSamples (e ∷ es) =
-    withSamples es ++ (sampleOf e es ++ pick (ends (whyAt e)) (lineOf true (record { from = lastEnd es; to = e ∷ es; why = whyAt e })) [])
+withSamples (r ∷ rs) = withSamples rs ++ (sampleOf r rs ++ pick (ends (whyAt (r .own))) (lineOf true (endingWith r rs)) [])
 
 -- the rest's line, "only where records are left"
-abbrev pub restOf : Bool → List Event → List ℕ
-restOf moded es = pick (eqb (length (lastEnd es)) (length es)) [] (lineOf moded (unended es))
+abbrev pub restOf : Bool → List Recorded → List ℕ
+restOf moded rs = pick (eqb (length (lastEnd rs)) (length rs)) [] (lineOf moded (unended rs))
 
 -- ---- words: h is the history behind the record from
 -- what is in force behind it
-abbrev pub inForceLines : List Event → List ℕ
+abbrev pub inForceLines : List Recorded → List ℕ
 inForceLines h = rangeLine (accountOf h) ++ modeLine (accountOf h)
 
 -- "each refused write has its line"
-abbrev pub refusedWrite : Event → List Event → List ℕ
-refusedWrite e es =
-    let answer = happens (after es) e .answer in
-    atWrite [] (λ a byte. pick (accepted answer) [] (refusedLine (suc (length es)) byte a (number answer))) e
+abbrev pub refusedWrite : Recorded → List Recorded → List ℕ
+refusedWrite r rs =
+    let answer = answerTo r rs in
+    atWrite [] (λ a byte. pick (accepted answer) [] (refusedLine (suc (length rs)) byte a (number answer))) (r .own)
 
 -- the range where it, or what is doubted of it, is not what it was; and the mode
-abbrev pub changedBy : Event → List Event → List ℕ
-changedBy e es =
-    pick (isSameRange (accountOf (e ∷ es)) (accountOf es)) [] (rangeLine (accountOf (e ∷ es)))
-    ++ pick (isSameMode (accountOf (e ∷ es)) (accountOf es)) [] (modeLine (accountOf (e ∷ es)))
+abbrev pub changedBy : Recorded → List Recorded → List ℕ
+changedBy r rs =
+    pick (isSameRange (accountOf (r ∷ rs)) (accountOf rs)) [] (rangeLine (accountOf (r ∷ rs)))
+    ++ pick (isSameMode (accountOf (r ∷ rs)) (accountOf rs)) [] (modeLine (accountOf (r ∷ rs)))
 
--- what is said of the later events, in order
-abbrev pub saidFrom : List Event → List Event → List ℕ
+-- what is said of the later records, in order
+abbrev pub saidFrom : List Recorded → List Recorded → List ℕ
 saidFrom h [] = inForceLines h
-saidFrom h (e ∷ later) = saidFrom h later ++ (refusedWrite e (later ++ h) ++ changedBy e (later ++ h))
+saidFrom h (r ∷ later) = saidFrom h later ++ (refusedWrite r (later ++ h) ++ changedBy r (later ++ h))
 
 -- the totals from h to k; what "lost" is about, where some were lost; and that no readout came, where none did
-abbrev pub totalsFrom : List Event → List Event → List ℕ
+abbrev pub totalsFrom : List Recorded → List Recorded → List ℕ
 totalsFrom h k =
     let n = differences (accountOf h .counts) (accountOf k .counts) in
     totalsLine (accountOf h) (accountOf k) ++ (pick (eqb (n .lost) 0) [] lostLine ++ pick (eqb (n .readouts) 0) noReadoutLine [])
 
 -- from a history h at which a stretch ends to a later one k: the stretches between them are those of k that h has not, and what the
 -- words print of the counts is the sum of what the stretches' lines print
-pub record Summed (h k : List Event) : Type 0 where
+pub record Summed (h k : List Recorded) : Type 0 where
   pub between : List Stretch
   pub are : stretches k ≡ between ++ stretches h
   pub leads : Between h between k
