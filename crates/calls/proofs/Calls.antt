@@ -16,13 +16,12 @@ use Rattle.events.specs.Event.{Event, powerUp, read, happens, lentBy, gives, Gi
 use Rattle.events.specs.Run.{after}
 use Rattle.events.proofs.Given.{read-gives}
 use Rattle.history.proofs.Conserve.{demand3}
-use Rattle.paper.specs.Stored.{ByteWrites}
 use Rattle.outcomes.proofs.Refusals.{read-unchanged}
 use Rattle.demand2.proofs.Demand2.{demand2, readout}
 use Rattle.demand2.proofs.Watermark.{watermark}
 use Rattle.twin.specs.Entry.{deviceIn, stepOf, lentAt}
 use Rattle.twin.specs.declared.Harness.{Harness}
-use Rattle.calls.specs.Calls.{Handed, Typed, Call, powersUp, hands, Seen, Leaves, CallsMade, no-more, on-power-up, on-event, eventFor, eventOnto, eventsAskedOnto, seenOf, allSeen, Served}
+use Rattle.calls.specs.Calls.{Handed, Call, powersUp, Seen, Leaves, CallsMade, no-more, on-power-up, on-event, eventFor, eventOnto, eventsAskedOnto, seenOf, allSeen, Served}
 use Rattle.calls.proofs.Kind.{requested-is}
 use Rattle.calls.proofs.PinCodes.{pins-coded}
 
@@ -66,22 +65,16 @@ module _ (es : List Event) (c : Handed) where
         q .1 ∙ ap (λ (e : Option Event). stepOf (after es) e .device) r ∙ one-stated .1,
       )
 
-  -- what it writes is a byte
-  call-writes : Typed c → ByteWrites es → ByteWrites (eventOnto (eventFor c) es)
-  call-writes t b =
-      let P : Option Event → Type 0 = λ e. ByteWrites (eventOnto e es) in
-      picked P (eqb (c .kind) 1) (t .byte, b) (picked P (eqb (c .kind) 2) b (picked P (eqb (c .kind) 3) b (picked P (eqb (c .kind) 4) b (picked P (eqb (c .kind) 5) b b))))
-
 -- ---- a run
-run-is : (es : List Event) {h end : Harness} {cs : List Call} {ss : List Seen} → deviceIn h ≡ after es → ByteWrites es → CallsMade h cs ss end
-    → (ss ≡ allSeen es cs) × (deviceIn end ≡ after (eventsAskedOnto es cs)) × ByteWrites (eventsAskedOnto es cs)
+run-is : (es : List Event) {h end : Harness} {cs : List Call} {ss : List Seen} → deviceIn h ≡ after es → CallsMade h cs ss end
+    → (ss ≡ allSeen es cs) × (deviceIn end ≡ after (eventsAskedOnto es cs))
 unfolding after
-run-is es e b no-more = (refl, e, b)
-run-is es e b (on-power-up p later) = run-is (powerUp ∷ es) p b later
-run-is es e b (on-event {c = c} {s = s} t p later) =
+run-is es e no-more = (refl, e)
+run-is es e (on-power-up p later) = run-is (powerUp ∷ es) p later
+run-is es e (on-event {c = c} {s = s} t p later) =
     let one = call-leaves es c s e p in
-    let on = run-is (eventOnto (eventFor c) es) (one .1) (call-writes es c t b) later in
-    (λ i. one .0 i ∷ on .0 i, on .1, on .2)
+    let on = run-is (eventOnto (eventFor c) es) (one .1) later in
+    (λ i. one .0 i ∷ on .0 i, on .1)
 
 -- ---- what the next call sees that reads
 module _ (es : List Event) {d d′ : Device} (c : Handed) (s : Seen) (e : d ≡ after es) (p : Leaves d c s d′) (k : c .kind ≡ 2) where
@@ -99,15 +92,14 @@ pub served : {h end : Harness} {cs : List Call} {ss : List Seen} → CallsMade h
 unfolding after
 served {cs = cs} (on-power-up p later) =
     let es = eventsAskedOnto [] cs in
-    let r = run-is [] p tt later in
-    let two = demand2 es (r .2) in
+    let r = run-is [] p later in
+    let two = demand2 es in
     record {
       seen = r .0;
       is-after = r .1;
       pins = rw (r .1) (pins-coded (after es));
-      bytes = r .2;
       demand2 = two;
-      watermark = watermark es (r .2);
+      watermark = watermark es;
       demand3 = demand3 es;
       below = λ c s h q k b. read-sees es c s (r .1) q k _ (two .below (c .address) (length (c .buffer)) b);
       frames = λ c s h q k a m n. read-sees es c s (r .1) q k _ (rw a (readout es (length (c .buffer)) m n));

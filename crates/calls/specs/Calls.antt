@@ -26,7 +26,6 @@ use Rattle.demand3.specs.Demand.{fates}
 use Rattle.history.specs.History.{accelerometer, twin, Demand3Here}
 use Rattle.rules.specs.Bursts.{isBurst}
 use Rattle.rules.specs.Rules.{ruledFrom}
-use Rattle.paper.specs.Stored.{ByteWrites}
 use Rattle.outcomes.specs.Demand1.{Due, Tabled}
 use Rattle.demand2.specs.Demand2.{Demand2, elsewhere}
 use Rattle.demand2.specs.Watermark.{Watermark}
@@ -144,8 +143,7 @@ pub record Served (cs : List Call) (ss : List Seen) (end : Harness) : Type 0 whe
   pub is-after : deviceIn end ≡ after (eventsAsked cs)
   -- what twin_pins gives then
   pub pins : Coded (pinsOf (after (eventsAsked cs))) (pinsCode (deviceIn end))
-  -- what they write are bytes, so the demands hold with nothing asked of the caller
-  pub bytes : ByteWrites (eventsAsked cs)
+  -- the demands, with nothing asked of the caller
   pub demand2 : Demand2 (eventsAsked cs)
   pub watermark : Watermark (eventsAsked cs)
   pub demand3 : Demand3Here twin (eventsAsked cs)

@@ -30,7 +30,6 @@ use Rattle.anymotion.specs.Marks.{marksByte}
 use Rattle.anymotion.proofs.Detector.{detector-is}
 use Rattle.anymotion.proofs.Promise.{reads-marks}
 use Rattle.rules.specs.Rules.{status, Elsewhere, ruled, maps, isOne, someMapped, Leveled}
-use Rattle.paper.specs.Stored.{ByteWrites}
 use Rattle.rules.proofs.Bursts.{single}
 use Rattle.rules.proofs.Shown.{elsewhereIn}
 use Rattle.rules.proofs.Reading.{reads}
@@ -81,13 +80,13 @@ module _ (es : List Event) (n : ℕ) (some : 1 ≤ n) (few : n ≤ 192) where
   unfolding readOf readAnswer
   readout = rw (ok, taken, given, demand3 es .demand .next (read 0x3F n) n said)
 
-pub demand2 : (es : List Event) → ByteWrites es → Demand2 es
-demand2 es b =
+pub demand2 : (es : List Event) → Demand2 es
+demand2 es =
     let p = subst (λ (w : Elsewhere). let r = ruled w es in
     Leveled (someMapped (isOne r) (λ m. m .int1) maps) (bit 0 (r 0x20)) (bit 1 (r 0x20)) (pinsOf (after es) .int1)
-    × Leveled (someMapped (isOne r) (λ m. m .int2) maps) (bit 2 (r 0x20)) (bit 3 (r 0x20)) (pinsOf (after es) .int2)) (elsewhere-is es) (pins es b) in
+    × Leveled (someMapped (isOne r) (λ m. m .int2) maps) (bit 2 (r 0x20)) (bit 3 (r 0x20)) (pinsOf (after es) .int2)) (elsewhere-is es) (pins es) in
     record {
-      below = λ a n h. reads es b a n h ∙ rw (elsewhere-is es);
+      below = λ a n h. reads es a n h ∙ rw (elsewhere-is es);
       frames = λ n some few. readout es n some few;
       int1 = p .0;
       int2 = p .1;

@@ -1,3 +1,2 @@
-pub mod Clears
 pub mod Demand2
 pub mod Watermark

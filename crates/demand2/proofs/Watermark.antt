@@ -27,10 +27,10 @@ use Rattle.demand3.proofs.Chip.{isCleared}
 use Rattle.history.proofs.Conserve.{demand3, lawful, over-clears-here}
 use Rattle.history.proofs.Holds.{holds-after}
 use Rattle.demand3.proofs.Whole.{next-held}
-use Rattle.rules.specs.Data.{isSample}
 use Rattle.rules.specs.Rules.{depthBy, watermarkStatus}
-use Rattle.paper.specs.Stored.{ByteWrites, byteBy}
-use Rattle.rules.proofs.Channels.{sample-is}
+use Rattle.paper.specs.Stored.{byteBy}
+use Rattle.paper.specs.Samples.{isSample}
+use Rattle.paper.proofs.Samples.{sample-is}
 use Rattle.rules.proofs.Reading.{depth-is, interrupts-seen}
 use Rattle.rules.proofs.Registers.{registers}
 use Rattle.paper.proofs.Stored.{stored-is}
@@ -55,9 +55,9 @@ not-seen true h = absurd (h refl)
 not-seen false h = refl
 
 -- ---- after any events
-module _ (es : List Event) (b : ByteWrites es) where
+module _ (es : List Event) where
   seen-is : watermarkBit es ≡ watermarkStatus (elsewhere es) es
-  seen-is = interrupts-seen es b .1 ∙ rw (elsewhere-is es)
+  seen-is = interrupts-seen es .1 ∙ rw (elsewhere-is es)
 
   reached-here : (watermarkBit es ≡ true) ↔ Reaches es 32 (frameCount es)
   unfolding elsewhere
@@ -65,7 +65,7 @@ module _ (es : List Event) (b : ByteWrites es) where
 
   -- "Depth is 32 in FIFO and STREAM, 1 in BYPASS"; "The held frames never exceed the depth"
   control-is : control es ≡ byteBy es 0x3E
-  control-is = sym (holds-after es .regs .control) ∙ registers es controlAt ∙ stored-is es b controlAt (omega arith)
+  control-is = sym (holds-after es .regs .control) ∙ registers es controlAt ∙ stored-is es controlAt (omega arith)
 
   deep : setting es .depth ≡ depthBy es
   deep = depth-is (control es) (holds-after es .mode) ∙ rw control-is
@@ -118,7 +118,7 @@ module _ (es : List Event) where
       go : (t : Bool) → heldAfter s (onto (pick t (readOut n) nothing) es') ≡ heldAfter s es' - pick t (begun (s .size) n) 0
       go true = refl
       go false = none-less (heldAfter s es')
-  held-said (sample x y z t) on s es' = rw (sample-is x y z t) (go (isSample (sample x y z t)))
+  held-said (sample x y z t) on s es' = rw (sample-is x y z) (go (isSample (sample x y z t)))
     where
       go : (t : Bool) → heldAfter s (onto (pick t (sampled (frame (axesOf (control es)) x y z)) nothing) es') ≡ pick t (min (s .depth) (suc (heldAfter s es'))) (heldAfter s es' - 0)
       go true = refl
@@ -189,15 +189,6 @@ later-is : (es later : List Event) → goOn later ≡ true → Later es later
 later-is es [] on = record { enable = refl; same = refl; set = refl; least = omega arith; many = λ none. omega (arith, demand3 es .demand .few) }
 later-is es (e ∷ later) on = next-later es later (later-is es later (right (goesOn e) (goOn later) on)) e (left (goesOn e) (goOn later) on)
 
-bytes-joined : (later es : List Event) → ByteWrites later → ByteWrites es → ByteWrites (later ++ es)
-bytes-joined [] es c b = b
-bytes-joined (powerUp ∷ later) es c b = bytes-joined later es c b
-bytes-joined (write a byte ∷ later) es c b = (c .0, bytes-joined later es (c .1) b)
-bytes-joined (read a n ∷ later) es c b = bytes-joined later es c b
-bytes-joined (sample x y z t ∷ later) es c b = bytes-joined later es c b
-bytes-joined (cycle ∷ later) es c b = bytes-joined later es c b
-bytes-joined (clock us ∷ later) es c b = bytes-joined later es c b
-
 depth-32 : (es : List Event) → depthBy es ≤ 32
 depth-32 es = go (eqb (byteBy es 0x3E / 64) 0b00)
   where
@@ -205,42 +196,42 @@ depth-32 es = go (eqb (byteBy es 0x3E / 64) 0b00)
     go true = omega arith
     go false = omega arith
 
-module _ (es : List Event) (b : ByteWrites es) where
-  module _ (later : List Event) (c : ByteWrites later) (on : goOn later ≡ true) where
+module _ (es : List Event) where
+  module _ (later : List Event) (on : goOn later ≡ true) where
     seen-later : (watermarkBit (later ++ es) ≡ true) ↔ Reaches es 32 (frameCount (later ++ es))
     seen-later =
         let i = later-is es later on in
-        rw (i .enable, i .same) at (reached-here (later ++ es) (bytes-joined later es c b))
+        rw (i .enable, i .same) at (reached-here (later ++ es))
 
     late-here : framesAsked (frameSize es) later ≡ 0 → (watermarkBit (later ++ es) ≡ true) ↔ Reaches es (depthBy es) (frameCount es + arrived later)
     late-here none =
         let m = later-is es later on .many none in
         let r = seen-later in (
-          λ s. let p = r .0 s in (p .0, p .1, omega (arith, p .3, m, deep es b), omega (arith, p .3, m)),
-          λ p. r .1 (p .0, p .1, omega (arith, p .2, depth-32 es), omega (arith, p .2, p .3, m, deep es b)),
+          λ s. let p = r .0 s in (p .0, p .1, omega (arith, p .3, m, deep es), omega (arith, p .3, m)),
+          λ p. r .1 (p .0, p .1, omega (arith, p .2, depth-32 es), omega (arith, p .2, p .3, m, deep es)),
         )
 
     lasts-here : level es + framesAsked (frameSize es) later ≤ frameCount es → watermarkBit es ≡ true → watermarkBit (later ++ es) ≡ true
     lasts-here enough s =
-        let p = reached-here es b .0 s in
+        let p = reached-here es .0 s in
         seen-later .1 (p .0, p .1, p .2, omega (arith, enough, later-is es later on .least))
 
   ends-here : (n : ℕ) → 1 ≤ n → n ≤ 192 → (watermarkBit (read 0x3F n ∷ es) ≡ true) ↔ Reaches es 32 (frameCount es - begun (frameSize es) n)
   unfolding byteBy
   ends-here n some most =
       let q : frameCount (read 0x3F n ∷ es) ≡ frameCount es - begun (frameSize es) n = held-next es (read 0x3F n) refl ∙ rw (out es n some most) in
-      rw q at (reached-here (read 0x3F n ∷ es) b)
+      rw q at (reached-here (read 0x3F n ∷ es))
 
   above-here : (top : ℕ) → depthBy es ≡ top → suc top ≤ level es → watermarkBit es ≡ false
-  above-here top d high = not-seen (watermarkBit es) (λ s. omega (arith, reached-here es b .0 s .3, few es b))
+  above-here top d high = not-seen (watermarkBit es) (λ s. omega (arith, reached-here es .0 s .3, few es))
 
-pub watermark : (es : List Event) → ByteWrites es → Watermark es
-watermark es b = record {
-  reached = reached-here es b;
-  level-0 = λ z. not-seen (watermarkBit es) (λ s. omega (arith, reached-here es b .0 s .1));
-  above-1 = λ bypass high. above-here es b 1 (rw (eq-eqb (byteBy es 0x3E / 64) 0b00 bypass)) high;
-  above-32 = λ high. not-seen (watermarkBit es) (λ s. omega (arith, reached-here es b .0 s .2));
-  late = late-here es b;
-  lasts = lasts-here es b;
-  ends = ends-here es b;
+pub watermark : (es : List Event) → Watermark es
+watermark es = record {
+  reached = reached-here es;
+  level-0 = λ z. not-seen (watermarkBit es) (λ s. omega (arith, reached-here es .0 s .1));
+  above-1 = λ bypass high. above-here es 1 (rw (eq-eqb (byteBy es 0x3E / 64) 0b00 bypass)) high;
+  above-32 = λ high. not-seen (watermarkBit es) (λ s. omega (arith, reached-here es .0 s .2));
+  late = late-here es;
+  lasts = lasts-here es;
+  ends = ends-here es;
 }

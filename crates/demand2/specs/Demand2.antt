@@ -41,7 +41,7 @@ elsewhere es = record {
 abbrev pub byteRead : List Event → ℕ → ℕ
 byteRead es a = ruled (elsewhere es) es a
 
--- of the histories whose written bytes are bytes
+-- after any history
 pub record Demand2 (es : List Event) : Type 0 where
   -- below 0x3F, one byte or a burst
   pub below : (a n : ℕ) → isBurst a n ≡ true → gives (after es) (read a n) ≡ bytes (ruledFrom (elsewhere es) es a n)

@@ -16,10 +16,10 @@ use Rattle.events.specs.Views.{isPowerUp, atWrite, atRead}
 use Rattle.demand3.specs.Counts.{begun}
 use Rattle.demand3.specs.Demand.{fates}
 use Rattle.history.specs.History.{accelerometer, readsOut, setting}
-use Rattle.rules.specs.Data.{isSample}
 use Rattle.rules.specs.Shown.{bitSeen}
 use Rattle.rules.specs.Rules.{depthBy}
-use Rattle.paper.specs.Stored.{ByteWrites, byteBy}
+use Rattle.paper.specs.Stored.{byteBy}
+use Rattle.paper.specs.Samples.{isSample}
 
 -- ---- after a history
 -- what a recorder sees: "watermark (0x0A bit 6)"
@@ -68,7 +68,7 @@ abbrev pub framesAsked : ℕ → List Event → ℕ
 framesAsked size [] = 0
 framesAsked size (e ∷ es) = framesAskedBy size e + framesAsked size es
 
--- ---- of the histories whose written bytes are bytes
+-- ---- after any history
 pub record Watermark (es : List Event) : Type 0 where
   -- "The bit is 1 when the count is at or above a level from 1 to 32"
   pub reached : (watermarkBit es ≡ true) ↔ Reaches es 32 (frameCount es)
@@ -78,10 +78,10 @@ pub record Watermark (es : List Event) : Type 0 where
   pub above-32 : 33 ≤ level es → watermarkBit es ≡ false
   -- "A recorder that was late by one sample never woke": late by any number of samples, and by whatever else it did meanwhile but
   -- reading frames, it sees the bit once so many samples have arrived, and from then on
-  pub late : (later : List Event) → ByteWrites later → goOn later ≡ true → framesAsked (frameSize es) later ≡ 0
+  pub late : (later : List Event) → goOn later ≡ true → framesAsked (frameSize es) later ≡ 0
       → (watermarkBit (later ++ es) ≡ true) ↔ Reaches es (depthBy es) (frameCount es + arrived later)
   -- it sees the bit until it reads enough: while what its readouts asked for leaves the level, whatever arrives
-  pub lasts : (later : List Event) → ByteWrites later → goOn later ≡ true → level es + framesAsked (frameSize es) later ≤ frameCount es
+  pub lasts : (later : List Event) → goOn later ≡ true → level es + framesAsked (frameSize es) later ≤ frameCount es
       → watermarkBit es ≡ true → watermarkBit (later ++ es) ≡ true
   -- and no longer: a readout leaves what it does not take
   pub ends : (n : ℕ) → 1 ≤ n → n ≤ 192 → (watermarkBit (read 0x3F n ∷ es) ≡ true) ↔ Reaches es 32 (frameCount es - begun (frameSize es) n)

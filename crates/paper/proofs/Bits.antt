@@ -2,15 +2,17 @@
 -- Assumes nothing.
 use Prim.Native.Nat.{ℕ, zero, suc, _/_, _%_, _^_, _<_, min, max}
 use mathlib.Core.Bool.{Bool, true, false, not}
+use mathlib.Core.List.{[], _∷_}
 use mathlib.Core.Path.{_≡_, refl, sym, ap, _∙_}
 use native.Mathlib.Omega.{arith}
 use lib.Dec.{eqb}
-use lib.Bits.{bitAnd, bitOr, bitXor, differ, and-step, or-step, xor-step, and-shr, or-shr, xor-shr}
+use lib.Bits.{bitAnd, bitOr, bitXor, differ, and-step, or-step, xor-step, and-shr, or-shr, xor-shr, and-le-r}
 use Rattle.laws.specs.Choice.{pick, both, either}
 use Rattle.laws.specs.Bits.{bit}
 use Rattle.laws.proofs.Finite.{alike}
 use Rattle.table.specs.Rows.{merged}
 use Rattle.table.specs.declared.Row.{Row}
+use Rattle.paper.specs.Refused.{oneIn}
 
 -- what holds of 0 and 1 holds of two numbers' last digits
 digits : (P : ℕ → ℕ → Type 0) → P 0 0 → P 0 1 → P 1 0 → P 1 1 → (x y : ℕ) → P (x % 2) (y % 2)
@@ -74,3 +76,24 @@ bit-clear k h v r e m = go (bit k v) (sym (bit-and k v r) ∙ ap (λ (n : ℕ). 
     go : (t : Bool) → both t (bit k r) ≡ false → t ≡ false
     go true f = cc
     go false f = refl
+
+-- ---- whether two numbers have a 1 at the same of the eight places
+abbrev pub shareOne : ℕ → ℕ → Bool
+shareOne m b =
+    either (both (bit 7 m) (bit 7 b)) (either (both (bit 6 m) (bit 6 b)) (either (both (bit 5 m) (bit 5 b)) (either (both (bit 4 m) (bit 4 b))
+    (either (both (bit 3 m) (bit 3 b)) (either (both (bit 2 m) (bit 2 b)) (either (both (bit 1 m) (bit 1 b)) (either (both (bit 0 m) (bit 0 b)) false)))))))
+
+some-one : (v : ℕ) → v < 256 → not (eqb v 0) ≡ oneIn (7 ∷ 6 ∷ 5 ∷ 4 ∷ 3 ∷ 2 ∷ 1 ∷ 0 ∷ []) v
+unfolding bit
+some-one = alike (λ v. not (eqb v 0)) (oneIn (7 ∷ 6 ∷ 5 ∷ 4 ∷ 3 ∷ 2 ∷ 1 ∷ 0 ∷ [])) 256 refl
+
+both-swapped : (s t : Bool) → both s t ≡ both t s
+both-swapped true true = refl
+both-swapped true false = refl
+both-swapped false true = refl
+both-swapped false false = refl
+
+pub share-one : (m b : ℕ) → m < 256 → not (eqb (bitAnd b m) 0) ≡ shareOne m b
+share-one m b h =
+    let at : (k : ℕ) → bit k (bitAnd b m) ≡ both (bit k m) (bit k b) = λ k. bit-and k b m ∙ both-swapped (bit k b) (bit k m) in
+    some-one (bitAnd b m) (omega (arith, and-le-r b m)) ∙ rw (at 7, at 6, at 5, at 4, at 3, at 2, at 1, at 0)

@@ -1,4 +1,7 @@
 pub mod Bits
 pub mod Table
+pub mod Refused
 pub mod Writes
 pub mod Stored
+pub mod Samples
+pub mod Readouts

@@ -4,6 +4,7 @@ use Prim.Native.Nat.{ℕ, _<_}
 use mathlib.Core.Bool.{Bool, true, false, not}
 use mathlib.Core.Path.{_≡_, refl, sym, _∙_}
 use mathlib.Core.List.{List, [], _∷_}
+use native.Mathlib.Omega.{arith}
 use lib.Dec.{eqb}
 use lib.ListN.{getD}
 use borrow.Author.Tests.{eqb-true, eq-eqb, ne-eqb, eqb-false}
@@ -20,9 +21,11 @@ use Rattle.events.specs.Event.{Event, write, read, sample, cycle, clock}
 use Rattle.events.specs.Event as event
 use Rattle.events.specs.Bank.{bank, stored}
 use Rattle.events.proofs.Runs.{bank-length}
-use Rattle.paper.specs.Table.{resetOf, accepts}
-use Rattle.paper.specs.Stored.{ByteWrites, isSpared, none, last, lastWrite, byteLeft, byteBy}
-use Rattle.paper.proofs.Table.{reset-is, masked-is, masked-none, accepts-is}
+use Rattle.paper.specs.Table.{resetOf}
+use Rattle.paper.specs.Refused.{isReservedWrite, accepts}
+use Rattle.paper.specs.Stored.{isSoftReset, isSpared, none, last, lastWrite, byteLeft, byteBy, isAccepted}
+use Rattle.paper.proofs.Table.{reset-is, masked-is, masked-none}
+use Rattle.paper.proofs.Refused.{accepts-is}
 use Rattle.paper.proofs.Writes.{isStored, byteWritten, byte-written, fixed-next}
 
 -- where no bit can be written, the byte is the reset byte
@@ -39,49 +42,66 @@ at-reset : (a byte : ℕ) → isReset a byte ≡ true → (isSpared a ≡ false)
 unfolding theTable
 at-reset a byte r = rw (eqb-true a resetAt (left (eqb a resetAt) (eqb byte softResetByte) r)) (refl, refl, λ regs. reset-accepted regs byte)
 
-module _ (es : List Event) (a : ℕ) (h : a < 64) where
-  -- a write to a itself
-  own : (byte : ℕ) → byte < 256 → stored es a ≡ byteBy es a → byteWritten (bank es) a a byte ≡ byteBy (write a byte ∷ es) a
-  unfolding byteBy
-  own byte k e =
-      rw (accepts-is (bank es) a byte k, eq-eqb a a refl) (go (accepts a byte) refl (isReset a byte) refl (writable a) refl)
-    where
-      go : (t : Bool) → accepts a byte ≡ t → (r : Bool) → isReset a byte ≡ r → (w : Bool) → writable a ≡ w
-          → pick r (pick (isSpared a) (stored es a) (getD firstBytes a 0)) (pick (both (both t w) true) (merged (rowAt a) byte) (stored es a))
-          ≡ byteLeft a (pick t (last byte) (pick (both r (not (isSpared a))) none (lastWrite es a)))
-      go true p true q w o = let z = at-reset a byte q in rw (z .0) (reset-is a h ∙ sym (masked-none a byte h (z .1)))
-      go true p false q true o = masked-is a byte h o
-      go true p false q false o = fixed-is es a h o ∙ sym (masked-none a byte h o)
-      go false p true q w o = cc (at-reset a byte q .2 (bank es), accepts-is (bank es) a byte k)
-      go false p false q w o = e
+-- "14: 0xB6 is a soft reset"
+pub soft-reset-is : (a byte : ℕ) → isReset a byte ≡ isSoftReset a byte
+soft-reset-is a byte = refl
 
-  -- a write to another address
-  other : (c byte : ℕ) → eqb a c ≡ false → stored es a ≡ byteBy es a → byteWritten (bank es) a c byte ≡ byteBy (write c byte ∷ es) a
-  unfolding byteBy
-  other c byte n e =
-      let m : eqb c a ≡ false = ne-eqb c a (λ p. eqb-false a c n (sym p)) in
-      rw (n, m) (go (isReset c byte) (isSpared a) (isStored (bank es) c byte))
-    where
-      go : (r s t : Bool) → pick r (pick s (stored es a) (getD firstBytes a 0)) (pick (both t false) (merged (rowAt c) byte) (stored es a)) ≡ byteLeft a (pick (both r (not s)) none (lastWrite es a))
-      go true true t = e
-      go true false t = reset-is a h
-      go false s true = e
-      go false s false = e
+-- what is accepted depends on what the addresses of the table hold
+same-accepts : (held held′ : ℕ → ℕ) → ((k : ℕ) → k < 64 → held k ≡ held′ k) → (a b : ℕ) → accepts held a b ≡ accepts held′ a b
+unfolding accepts isReservedWrite
+same-accepts held held′ same a b = rw (same 0x0F (omega arith), same 0x3E (omega arith))
 
-  written : (c byte : ℕ) → byte < 256 → stored es a ≡ byteBy es a → stored (write c byte ∷ es) a ≡ byteBy (write c byte ∷ es) a
-  unfolding bank
-  written c byte k e = byte-written (bank es) (bank-length es) a c byte ∙ go (eqb a c) refl
-    where
-      go : (t : Bool) → eqb a c ≡ t → byteWritten (bank es) a c byte ≡ byteBy (write c byte ∷ es) a
-      go true f = rw (← eqb-true a c f) (own byte k e)
-      go false f = other c byte f e
+module _ (es : List Event) (before : (k : ℕ) → k < 64 → stored es k ≡ byteBy es k) where
+  accepted-after : (a byte : ℕ) → accepted (writeAnswer (bank es) a byte) ≡ isAccepted es a byte
+  accepted-after a byte = accepts-is (bank es) a byte ∙ same-accepts (stored es) (byteBy es) before a byte
 
-pub stored-is : (es : List Event) → ByteWrites es → (a : ℕ) → a < 64 → stored es a ≡ byteBy es a
+  module _ (a : ℕ) (h : a < 64) where
+    -- a write to a itself
+    own : (byte : ℕ) → byteWritten (bank es) a a byte ≡ byteBy (write a byte ∷ es) a
+    unfolding byteBy
+    own byte =
+        rw (accepted-after a byte, eq-eqb a a refl) (go (isAccepted es a byte) refl (isReset a byte) refl (writable a) refl)
+      where
+        go : (t : Bool) → isAccepted es a byte ≡ t → (r : Bool) → isReset a byte ≡ r → (w : Bool) → writable a ≡ w
+            → pick r (pick (isSpared a) (stored es a) (getD firstBytes a 0)) (pick (both (both t w) true) (merged (rowAt a) byte) (stored es a))
+            ≡ byteLeft a (pick t (last byte) (pick (both r (not (isSpared a))) none (lastWrite es a)))
+        go true p true q w o = let z = at-reset a byte q in rw (z .0) (reset-is a h ∙ sym (masked-none a byte h (z .1)))
+        go true p false q true o = masked-is a byte h o
+        go true p false q false o = fixed-is es a h o ∙ sym (masked-none a byte h o)
+        go false p true q w o = cc (at-reset a byte q .2 (bank es), accepted-after a byte)
+        go false p false q w o = before a h
+
+    -- a write to another address
+    other : (c byte : ℕ) → eqb a c ≡ false → byteWritten (bank es) a c byte ≡ byteBy (write c byte ∷ es) a
+    unfolding byteBy
+    other c byte n =
+        let m : eqb c a ≡ false = ne-eqb c a (λ p. eqb-false a c n (sym p)) in
+        rw (n, m) (go (isReset c byte) (isSpared a) (isStored (bank es) c byte))
+      where
+        go : (r s t : Bool) → pick r (pick s (stored es a) (getD firstBytes a 0)) (pick (both t false) (merged (rowAt c) byte) (stored es a)) ≡ byteLeft a (pick (both r (not s)) none (lastWrite es a))
+        go true true t = before a h
+        go true false t = reset-is a h
+        go false s true = before a h
+        go false s false = before a h
+
+    written : (c byte : ℕ) → stored (write c byte ∷ es) a ≡ byteBy (write c byte ∷ es) a
+    unfolding bank
+    written c byte = byte-written (bank es) (bank-length es) a c byte ∙ go (eqb a c) refl
+      where
+        go : (t : Bool) → eqb a c ≡ t → byteWritten (bank es) a c byte ≡ byteBy (write c byte ∷ es) a
+        go true f = rw (← eqb-true a c f) (own byte)
+        go false f = other c byte f
+
+pub stored-is : (es : List Event) (a : ℕ) → a < 64 → stored es a ≡ byteBy es a
 unfolding bank byteBy
-stored-is [] b a h = reset-is a h
-stored-is (event.powerUp ∷ es) b a h = reset-is a h
-stored-is (write c byte ∷ es) b a h = written es a h c byte (b .0) (stored-is es (b .1) a h)
-stored-is (read c n ∷ es) b a h = stored-is es b a h
-stored-is (sample x y z t ∷ es) b a h = stored-is es b a h
-stored-is (cycle ∷ es) b a h = stored-is es b a h
-stored-is (clock us ∷ es) b a h = stored-is es b a h
+stored-is [] a h = reset-is a h
+stored-is (event.powerUp ∷ es) a h = reset-is a h
+stored-is (write c byte ∷ es) a h = written es (stored-is es) a h c byte
+stored-is (read c n ∷ es) a h = stored-is es a h
+stored-is (sample x y z t ∷ es) a h = stored-is es a h
+stored-is (cycle ∷ es) a h = stored-is es a h
+stored-is (clock us ∷ es) a h = stored-is es a h
+
+-- a write is accepted after the events where the registers accept it
+pub accepted-is : (es : List Event) (a byte : ℕ) → accepted (writeAnswer (bank es) a byte) ≡ isAccepted es a byte
+accepted-is es = accepted-after es (stored-is es)

@@ -1,29 +1,19 @@
 -- 01's register table, as its text has it, is the one that the contracts cite: row by row, byte by byte, by computation.
 -- Assumes nothing.
 use Prim.Native.Nat.{ℕ, _<_}
-use mathlib.Core.Bool.{Bool, true, false, not}
-use mathlib.Core.Path.{_≡_, refl, sym, ap, _∙_}
-use mathlib.Core.List.{List, []}
+use mathlib.Core.Bool.{true, false}
+use mathlib.Core.Path.{_≡_, refl, sym, _∙_}
 use native.Mathlib.Omega.{arith}
 use lib.Bits.{bitAnd, bitXor, and-le-r, and-le-l, or-lt}
 use lib.Dec.{eqb, ltb}
 use lib.ListN.{length, getD}
-use borrow.Author.Tests.{eqb-true, not-false, ltb-true, ltb-false, le-leb, lt-leb}
-use Rattle.laws.specs.Choice.{pick, either}
+use borrow.Author.Tests.{eqb-true, not-false, ltb-true}
+use Rattle.laws.specs.Choice.{pick}
 use Rattle.laws.specs.Bits.{bit}
-use Rattle.laws.specs.Table.{upFrom}
-use Rattle.laws.proofs.Table.{entry}
 use Rattle.laws.proofs.Finite.{alike}
-use Rattle.codes.specs.Range.{rangeOf}
-use Rattle.codes.specs.Mode.{modeOf}
-use Rattle.codes.specs.Addresses.{framesAt}
 use Rattle.table.specs.Rows.{rowAt, merged, writable, theTable}
-use Rattle.registers.specs.Answers.{accepted}
-use Rattle.registers.specs.Refused.{writeAnswer, answerAt, reservedCode, notModelled, lackAt}
-use Rattle.registers.specs.declared.Answer.the-variants.{Done, ReservedCode}
-use Rattle.registers.proofs.Answers.{lack-refused}
 use Rattle.device.specs.Device.{firstBytes}
-use Rattle.paper.specs.Table.{tableRows, rowsOf, resetOf, maskOf, byteOf, masked, isRefused2, isLacking, accepts}
+use Rattle.paper.specs.Table.{tableRows, rowsOf, resetOf, maskOf, byteOf, masked}
 use Rattle.paper.proofs.Bits.{bit-merged}
 
 -- ---- the rows
@@ -82,36 +72,3 @@ unfolding masked bit
 masked-none a byte h w =
     let m : maskOf a ≡ 0 = sym (mask-is a h) ∙ eqb-true (rowAt a .1) 0 (not-false (eqb (rowAt a .1) 0) w) in
     rw m (sym (byte-bits (resetOf a) (reset-small a h)))
-
--- ---- the refusals, at each address and byte
-pub everywhere : (f g : ℕ → ℕ → Bool) → upFrom (λ a. upFrom (f a) 0 256) 0 64 ≡ upFrom (λ a. upFrom (g a) 0 256) 0 64
-    → (a b : ℕ) → a < 64 → b < 256 → f a b ≡ g a b
-everywhere f g e a b h k =
-    let row : upFrom (f a) 0 256 ≡ upFrom (g a) 0 256 =
-    sym (entry (λ c. upFrom (f c) 0 256) [] 64 a h) ∙ ap (λ (l : List (List Bool)). getD l a []) e ∙ entry (λ c. upFrom (g c) 0 256) [] 64 a h in
-    sym (entry (f a) false 256 b k) ∙ ap (λ (l : List Bool). getD l b false) row ∙ entry (g a) false 256 b k
-
-module _ (regs : List ℕ) where
-  refused2-is : (a b : ℕ) → a < 64 → b < 256 → reservedCode regs a b ≡ isRefused2 a b
-  unfolding reservedCode rangeOf modeOf isRefused2
-  refused2-is = everywhere (reservedCode regs) isRefused2 refl
-
-  lacking-is : (a b : ℕ) → a < 64 → b < 256 → notModelled regs (rowAt a) a b ≡ isLacking a b
-  unfolding notModelled theTable isLacking bit
-  lacking-is = everywhere (λ a b. notModelled regs (rowAt a) a b) isLacking refl
-
-  pub accepts-is : (a b : ℕ) → b < 256 → accepted (writeAnswer regs a b) ≡ accepts a b
-  unfolding answerAt accepts
-  accepts-is a b k = go (ltb framesAt a) refl
-    where
-      tests : (r s : Bool) → accepted (pick r ReservedCode (pick s (lackAt a) Done)) ≡ not (either r s)
-      tests true s = refl
-      tests false true = lack-refused a
-      tests false false = refl
-
-      go : (t : Bool) → ltb framesAt a ≡ t → accepted (writeAnswer regs a b) ≡ accepts a b
-      go true e = let h = ltb-true framesAt a e in rw (e, lt-leb a 0x3F h)
-      go false e =
-          let h = ltb-false framesAt a e in
-          let low : a < 64 = omega arith in
-          rw (e, le-leb a 0x3F h, refused2-is a b low k, lacking-is a b low k) (tests (isRefused2 a b) (isLacking a b))

@@ -1,3 +1,6 @@
 pub mod Table
+pub mod Refused
 pub mod Stored
+pub mod Samples
+pub mod Readouts
 pub mod Back

@@ -1,11 +1,10 @@
 -- 01, "Register table", written down a second time, in the order and form of its text. No contract cites this: proofs/Table holds the
 -- definitions that the contracts cite against it.
-use Prim.Native.Nat.{ℕ, suc, _+_, _-_, _/_, _%_}
-use mathlib.Core.Bool.{Bool, false, not}
+use Prim.Native.Nat.{ℕ, suc, _+_, _-_}
+use mathlib.Core.Bool.{Bool}
 use mathlib.Core.List.{List, [], _∷_, _++_, map}
-use lib.Dec.{eqb, leb}
-use Rattle.laws.specs.Choice.{pick, both, either}
-use Rattle.laws.specs.Lists.{isIn}
+use lib.Dec.{eqb}
+use Rattle.laws.specs.Choice.{pick}
 use Rattle.laws.specs.Table.{upFrom}
 use Rattle.laws.specs.Bits.{bit, worth}
 
@@ -73,33 +72,3 @@ byteOf b = worth 128 (b 7) + worth 64 (b 6) + worth 32 (b 5) + worth 16 (b 4) + 
 
 unfoldable pub masked : ℕ → ℕ → ℕ
 masked a byte = byteOf (λ k. pick (bit k (maskOf a)) (bit k byte) (bit k (resetOf a)))
-
--- ---- the refusals, of an address and a byte
--- "a 1 in" bits of a byte
-abbrev pub oneIn : List ℕ → ℕ → Bool
-oneIn [] b = false
-oneIn (p ∷ ps) b = either (bit p b) (oneIn ps b)
-
--- 2: "0F: the codes 0011, 0101, 1000 and 1100 ..; every other low nibble is refused 2", "3E: bits 7:6 .. 11 is refused 2"
-unfoldable pub isRefused2 : ℕ → ℕ → Bool
-isRefused2 a b =
-    either (both (eqb a 0x0F) (not (isIn (0b0011 ∷ 0b0101 ∷ 0b1000 ∷ 0b1100 ∷ []) (b % 16))))
-    (both (eqb a 0x3E) (eqb (b / 64) 0b11))
-
--- in 3's place, by Q-1: "Split it by register"; and Q-4: "14 is gone", so of 0x21 nothing is refused
-unfoldable pub isLacking : ℕ → ℕ → Bool
-isLacking a b =
-    -- "Refused 3: a 1 in 0x11 bits 7:5, 0x16 bits 7:4, 0x17 bits 3:0, 0x18 bits 2:0, 0x32 bits 1:0, 0x33 bits 3, 1, 0, 0x36 bits 7:5 or 2:0"
-    either (both (eqb a 0x11) (oneIn (7 ∷ 6 ∷ 5 ∷ []) b))
-    (either (both (eqb a 0x16) (oneIn (7 ∷ 6 ∷ 5 ∷ 4 ∷ []) b))
-    (either (both (eqb a 0x17) (oneIn (3 ∷ 2 ∷ 1 ∷ 0 ∷ []) b))
-    (either (both (eqb a 0x18) (oneIn (2 ∷ 1 ∷ 0 ∷ []) b))
-    (either (both (eqb a 0x32) (oneIn (1 ∷ 0 ∷ []) b))
-    (either (both (eqb a 0x33) (oneIn (3 ∷ 1 ∷ 0 ∷ []) b))
-    (either (both (eqb a 0x36) (oneIn (7 ∷ 6 ∷ 5 ∷ 2 ∷ 1 ∷ 0 ∷ []) b))
-    -- "anything but 0 to 0x38 to 0x3A"
-    (both (isIn (0x38 ∷ 0x39 ∷ 0x3A ∷ []) a) (not (eqb b 0)))))))))
-
--- 1: "address above 0x3F"; every other write is accepted
-unfoldable pub accepts : ℕ → ℕ → Bool
-accepts a b = both (leb a 0x3F) (not (either (isRefused2 a b) (isLacking a b)))

@@ -1,17 +1,15 @@
 -- Each byte of 0x0F means the range that 01 gives its low nibble, and the range in force is that of the byte that the events leave there.
 -- Assumes nothing.
-use Prim.Native.Nat.{ℕ, _%_, _<_}
+use Prim.Native.Nat.{ℕ, _%_}
 use mathlib.Core.Bool.{Bool, true, false}
-use mathlib.Core.List.{List, [], _∷_}
+use mathlib.Core.List.{List, _∷_}
 use mathlib.Core.Logic.{_↔_, _≢_}
 use mathlib.Core.Path.{_≡_, refl, sym, ap, _∙_, subst}
 use native.Mathlib.Omega.{arith}
-use lib.Bits.{and-zero-r}
+use lib.Bits.{bitAnd, and-zero-r, or-zero-r, and-mask}
 use lib.Dec.{eqb}
 use borrow.Author.Tests.{eqb-true, eqb-false}
-use Rattle.laws.specs.Bits.{bit}
 use Rattle.laws.specs.Choice.{pick}
-use Rattle.laws.proofs.Finite.{alike}
 use Rattle.codes.specs.Addresses.{rangeAt}
 use Rattle.codes.specs.Range.{rangeOf, isReservedRange}
 use Rattle.codes.specs.declared.Range.{Range}
@@ -26,10 +24,10 @@ use Rattle.device.specs.Show.{rangeIn}
 use Rattle.events.specs.Bank.{bank}
 use Rattle.events.specs.Event.{Event, write, gives}
 use Rattle.events.specs.Run.{after}
-use Rattle.paper.specs.Table.{tableRows, resetOf, maskOf, masked, accepts}
-use Rattle.paper.specs.Stored.{ByteWrites, byteBy}
-use Rattle.paper.proofs.Table.{accepts-is}
-use Rattle.paper.proofs.Stored.{stored-is}
+use Rattle.paper.specs.Table.{masked}
+use Rattle.paper.specs.Stored.{byteBy, isAccepted}
+use Rattle.paper.proofs.Table.{masked-is}
+use Rattle.paper.proofs.Stored.{stored-is, accepted-is}
 use Rattle.rules.proofs.Registers as registers
 use Rattle.ranges.specs.Ranges.{IsOther, MeansG, RangeRule}
 
@@ -107,9 +105,9 @@ module _ (es : List Event) where
   pub range-some : inG (rangeIn (after es)) ≢ 0
   range-some = known-some (rangeIn (after es)) (ap (λ n. isReservedRange (rangeOf n)) (registers.registers es rangeAt) ∙ registers.range-known es)
 
-  pub range-in-force : ByteWrites es → MeansG (byteBy es 0x0F % 16) (inG (rangeIn (after es)))
-  range-in-force b =
-      let left : reg (after es) rangeAt ≡ byteBy es 0x0F = registers.registers es rangeAt ∙ stored-is es b 0x0F (omega arith) in
+  pub range-in-force : MeansG (byteBy es 0x0F % 16) (inG (rangeIn (after es)))
+  range-in-force =
+      let left : reg (after es) rangeAt ≡ byteBy es 0x0F = registers.registers es rangeAt ∙ stored-is es 0x0F (omega arith) in
       subst (λ n. MeansG (n % 16) (inG (rangeIn (after es)))) left (range-means (reg (after es) rangeAt))
 
 -- ---- the others
@@ -134,9 +132,11 @@ range-refused es byte =
 
 -- ---- a write of one of the four
 -- "0F:03/0F": the low nibble is stored
-nibble-kept : (byte : ℕ) → byte < 256 → masked 0x0F byte % 16 ≡ byte % 16
-unfolding masked maskOf resetOf tableRows bit
-nibble-kept = alike (λ byte. masked 0x0F byte % 16) (λ byte. byte % 16) 256 refl
+nibble-kept : (byte : ℕ) → masked 0x0F byte % 16 ≡ byte % 16
+unfolding theTable
+nibble-kept byte =
+    let is : masked 0x0F byte ≡ byte % 16 = sym (masked-is 0x0F byte (omega arith) refl) ∙ or-zero-r (bitAnd byte 0x0F) ∙ and-mask byte 4 in
+    omega arith
 
 done-when : (r : Range) → inG r ≢ 0 → accepted (pick (isReservedRange r) ReservedCode Done) ≡ true
 done-when G2 k = refl
@@ -145,23 +145,20 @@ done-when G8 k = refl
 done-when G16 k = refl
 done-when Reserved k = absurd (k refl)
 
-range-accepts : (byte : ℕ) → byte < 256 → ¬ IsOther (byte % 16) → accepts 0x0F byte ≡ true
-range-accepts byte small one =
-    let regs : List ℕ = [] in
-    sym (accepts-is regs 0x0F byte small) ∙ ap accepted (answer-at regs byte) ∙ done-when (rangeOf byte) (λ z. one (range-means byte .none .0 z))
+range-accepted : (es : List Event) (byte : ℕ) → ¬ IsOther (byte % 16) → isAccepted es 0x0F byte ≡ true
+range-accepted es byte one =
+    sym (accepted-is es 0x0F byte) ∙ ap accepted (answer-at (bank es) byte) ∙ done-when (rangeOf byte) (λ z. one (range-means byte .none .0 z))
 
-pub range-written : (es : List Event) → ByteWrites es → (byte : ℕ) → byte < 256 → ¬ IsOther (byte % 16)
-    → MeansG (byte % 16) (inG (rangeIn (after (write 0x0F byte ∷ es))))
+pub range-written : (es : List Event) (byte : ℕ) → ¬ IsOther (byte % 16) → MeansG (byte % 16) (inG (rangeIn (after (write 0x0F byte ∷ es))))
 unfolding byteBy
-range-written es b byte small one =
-    let left : byteBy (write 0x0F byte ∷ es) 0x0F ≡ masked 0x0F byte = rw (range-accepts byte small one) in
-    subst (λ code. MeansG code (inG (rangeIn (after (write 0x0F byte ∷ es))))) (ap (λ n. n % 16) left ∙ nibble-kept byte small)
-    (range-in-force (write 0x0F byte ∷ es) (small, b))
+range-written es byte one =
+    let left : byteBy (write 0x0F byte ∷ es) 0x0F ≡ masked 0x0F byte = rw (range-accepted es byte one) in
+    subst (λ code. MeansG code (inG (rangeIn (after (write 0x0F byte ∷ es))))) (ap (λ n. n % 16) left ∙ nibble-kept byte) (range-in-force (write 0x0F byte ∷ es))
 
-pub range-rule : (es : List Event) → ByteWrites es → RangeRule es
-range-rule es b = record {
-  inForce = range-in-force es b;
+pub range-rule : (es : List Event) → RangeRule es
+range-rule es = record {
+  inForce = range-in-force es;
   some = range-some es;
-  written = range-written es b;
+  written = range-written es;
   refused = range-refused es;
 }

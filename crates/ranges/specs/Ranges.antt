@@ -1,6 +1,6 @@
 -- 01, "Register table", 0F: "the codes 0011, 0101, 1000 and 1100 mean 2, 4, 8 and 16 g; every other low nibble is refused 2". No contract
 -- cites these; what the answer prints as the range rests on them.
-use Prim.Native.Nat.{ℕ, _%_, _<_}
+use Prim.Native.Nat.{ℕ, _%_}
 use mathlib.Core.List.{List, _∷_}
 use mathlib.Core.Logic.{_↔_, _≢_}
 use mathlib.Core.Path.{_≡_}
@@ -29,6 +29,6 @@ pub record RangeRule (es : List Event) : Type 0 where
   -- and there is always one
   pub some : inG (rangeIn (after es)) ≢ 0
   -- a write of one of the four codes puts its range in force
-  pub written : (byte : ℕ) → byte < 256 → ¬ IsOther (byte % 16) → MeansG (byte % 16) (inG (rangeIn (after (write 0x0F byte ∷ es))))
+  pub written : (byte : ℕ) → ¬ IsOther (byte % 16) → MeansG (byte % 16) (inG (rangeIn (after (write 0x0F byte ∷ es))))
   -- "is refused 2", and no code that means a range is
   pub refused : (byte : ℕ) → (gives (after es) (write 0x0F byte) .number ≡ 2) ↔ IsOther (byte % 16)

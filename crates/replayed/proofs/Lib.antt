@@ -1,5 +1,4 @@
 pub mod Fields
 pub mod Text
 pub mod Lines
-pub mod Writes
 pub mod Replayed

@@ -2,7 +2,7 @@
 -- Assumes nothing.
 use Prim.Native.Nat.{ℕ, suc}
 use mathlib.Core.Bool.{Bool, false}
-use mathlib.Core.List.{List, [], _∷_, _++_, append-assoc}
+use mathlib.Core.List.{List, [], _∷_}
 use mathlib.Core.Logic.{_≢_}
 use mathlib.Core.Path.{_≡_, refl, ap, sym, _∙_}
 use lib.ListN.{length}
@@ -12,19 +12,15 @@ use Rattle.laws.proofs.Bytes.{length-zeros}
 use Rattle.registers.specs.Answers.{number, accepted}
 use Rattle.registers.specs.declared.Answer.{Answer}
 use Rattle.registers.specs.declared.Answer.the-variants.{Done, NoAddress, ReservedCode, OutOfRange, BadLength, PastEnd, NoDetector, NoPowerMode, NoTestOrTrim}
-use Rattle.benchlog.specs.Whole.{Bytes}
 use Rattle.device.specs.declared.Device.{Device}
 use Rattle.events.specs.Event.{Event, Given, powerUp, write, read, sample, cycle, clock, happens, lentBy, gives}
 use Rattle.events.specs.Run.{after}
 use Rattle.events.proofs.Given.{read-gives}
-use Rattle.paper.specs.Stored.{ByteWrites}
 use Rattle.demand2.proofs.Demand2.{demand2}
 use Rattle.demand2.proofs.Watermark.{watermark}
-use Rattle.replayed.specs.Events.{eventsOf}
 use Rattle.replayed.specs.Lines.{lettersIf, lineText}
-use Rattle.replayed.specs.Replayed.{HappensIn, Demanded}
+use Rattle.replayed.specs.Replayed.{Demanded}
 use Rattle.replayed.proofs.Lines.{line-of}
-use Rattle.replayed.proofs.Writes.{writes-so-far}
 
 -- a refused event gives no bytes
 not-accepted : (a : Answer) → number a ≢ 0 → accepted a ≡ false
@@ -48,11 +44,7 @@ no-bytes d (sample x y z t) h = refl
 no-bytes d cycle h = refl
 no-bytes d (clock us) h = refl
 
-module _ (pins : Bool) (log : List ℕ) (bytes : Bytes log) where
-  -- the events before one of a log are so too
-  before : (later es : List Event) (e : Event) → HappensIn log es e later → ByteWrites es
-  before later es e h = writes-so-far log bytes (later ++ (e ∷ [])) es (h ∙ sym (append-assoc later (e ∷ []) es))
-
+module _ (pins : Bool) (log : List ℕ) where
   -- a line by what its event gives
   abbrev lineBy : List Event → Event → Given → List ℕ
   lineBy es e g = lineText (suc (length es)) (g .number) (g .bytes) (lettersIf pins (e ∷ es))
@@ -62,10 +54,8 @@ module _ (pins : Bool) (log : List ℕ) (bytes : Bytes log) where
     refused = λ later es e h no.
         line-of pins log later es e h
         ∙ ap (λ (bs : List ℕ). lineText (suc (length es)) (gives (after es) e .number) bs (lettersIf pins (e ∷ es))) (no-bytes (after es) e no);
-    ruled = λ later es h. demand2 es (writes-so-far log bytes later es h);
-    watermark = λ later es h. watermark es (writes-so-far log bytes later es h);
-    below = λ later es a n h burst. line-of pins log later es (read a n) h ∙ ap (lineBy es (read a n)) (demand2 es (before later es (read a n) h) .below a n burst);
-    frames = λ later es n h some most.
-        let ruled = demand2 es (before later es (read 0x3F n) h) in
-        line-of pins log later es (read 0x3F n) h ∙ ap (lineBy es (read 0x3F n)) (ruled .frames n some most);
+    ruled = λ later es h. demand2 es;
+    watermark = λ later es h. watermark es;
+    below = λ later es a n h burst. line-of pins log later es (read a n) h ∙ ap (lineBy es (read a n)) (demand2 es .below a n burst);
+    frames = λ later es n h some most. line-of pins log later es (read 0x3F n) h ∙ ap (lineBy es (read 0x3F n)) (demand2 es .frames n some most);
   }

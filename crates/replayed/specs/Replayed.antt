@@ -1,5 +1,5 @@
--- 01, "Bench log and replay", and the demands of every line of it: what the replay prints of a log is what the log's events say. Of the
--- logs of fewer than 2^64 bytes, each a byte.
+-- 01, "Bench log and replay", and the demands of every line of it: what the replay prints of a log is what the log's events say. The text is
+-- that of logs of fewer than 2^64 bytes, each a byte.
 use Prim.Native.Nat.{ℕ, suc, _≤_}
 use mathlib.Core.Bool.{Bool, true}
 use mathlib.Core.List.{List, [], _∷_, _++_}

@@ -5,24 +5,22 @@ use mathlib.Core.Bool.{Bool, true, false, not}
 use mathlib.Core.Path.{_≡_, refl, sym, ap, _∙_}
 use mathlib.Core.List.{List, _∷_}
 use native.Mathlib.Omega.{arith}
-use lib.Dec.{eqb, ltb, leb}
+use lib.Dec.{eqb, leb}
 use lib.IntN.{ℤ, pos, negsuc}
-use borrow.Author.Tests.{leb-true, leb-false, lt-ltb, le-ltb, ne-eqb}
+use borrow.Author.Tests.{leb-true, le-ltb, ne-eqb}
 use Rattle.laws.specs.Choice.{pick, both, either}
 use Rattle.laws.specs.Bits.{bit}
 use Rattle.laws.specs.Lists.{isIn}
 use Rattle.laws.proofs.Finite.{left, right, AtEach, at-any}
 use Rattle.channels.specs.Channels.{noSample, withSample, afterLsb, unlocked, noSamples, sampled, released, afterRead}
-use Rattle.channels.specs.Codes.{inRange, code, codes, msbOf}
+use Rattle.channels.specs.Codes.{code, codes, msbOf}
 use Rattle.channels.specs.declared.Channel.{Channel}
 use Rattle.channels.specs.declared.Channels.{Channels}
-use Rattle.registers.specs.Answers.{accepted}
-use Rattle.registers.specs.declared.Answer.the-variants.{Done, OutOfRange}
-use Rattle.device.specs.Sample.{sampleAnswer}
 use Rattle.events.specs.Event.{Event, sample}
-use Rattle.paper.specs.Stored.{byteBy}
+use Rattle.paper.specs.Stored.{startsAnew, byteBy}
+use Rattle.paper.specs.Samples.{noValues, isInside, isSample, valuesAt}
 use Rattle.paper.specs.Back.{beforeLast}
-use Rattle.rules.specs.Data.{isStart, isInside, isSample, isRead, isRelease, noValues, valuesOf, twelveBits, Axis, present, newData, locking, isLocked, dataAddresses, xAxis, yAxis, zAxis}
+use Rattle.rules.specs.Data.{isRead, isRelease, twelveBits, Axis, present, newData, locking, isLocked, dataAddresses, xAxis, yAxis, zAxis}
 
 -- a channel is as a history tells of its axis
 pub record Shows (axis : Axis) (h : List Event) (c : Channel) : Type 0 where
@@ -33,7 +31,7 @@ pub record Shows (axis : Axis) (h : List Event) (c : Channel) : Type 0 where
 
 -- what an event that is no start is to an axis: an accepted sample, a read of its LSB, a read of its MSB, a release
 pub record Meets (axis : Axis) (e : Event) (sampled lsb msb release : Bool) : Type 0 where
-  pub is-start : isStart e ≡ false
+  pub is-start : startsAnew e ≡ false
   pub is-sample : isSample e ≡ sampled
   pub is-lsb : isRead (axis .lsbAt) e ≡ lsb
   pub is-msb : isRead (suc (axis .lsbAt)) e ≡ msb
@@ -43,12 +41,12 @@ pub no : {X : Type 0} → false ≡ true → X
 no e = let z : _≡_ {A = ℕ} 0 1 = cc in absurd (omega arith)
 
 module _ (axis : Axis) (e : Event) (h : List Event) where
-  pub starts : axis .value noValues ≡ pos 0 → isStart e ≡ true → Shows axis (e ∷ h) noSample
+  pub starts : axis .value noValues ≡ pos 0 → startsAnew e ≡ true → Shows axis (e ∷ h) noSample
   unfolding newData isLocked
   starts z m = record { code = rw (m, z); fresh = rw m; locked = rw m; held = rw m no }
 
   module _ (c : Channel) (s : Shows axis h c) where
-    pub samples : Meets axis e true false false false → (code : ℕ) → code ≡ twelveBits (axis .value (valuesOf e)) → Shows axis (e ∷ h) (withSample code c)
+    pub samples : Meets axis e true false false false → (code : ℕ) → code ≡ twelveBits (axis .value (valuesAt h e)) → Shows axis (e ∷ h) (withSample code c)
     unfolding newData isLocked
     samples m code k = record {
       code = rw (m .is-start, m .is-sample) k;
@@ -99,36 +97,14 @@ code-is (negsuc n) h =
     let l = leb-true n 2047 (left (leb n 2047) true h) in
     rw (le-ltb 4096 (suc n) (omega arith)) (omega arith)
 
-inside-is : (v : ℤ) → inRange v ≡ isInside v
-inside-is (pos n) = go (leb n 2047) refl
-  where
-    go : (t : Bool) → leb n 2047 ≡ t → ltb n 2048 ≡ t
-    go true e = lt-ltb n 2048 (omega (arith, leb-true))
-    go false e = le-ltb n 2048 (omega (arith, leb-false))
-inside-is (negsuc n) = go (leb n 2047) refl
-  where
-    go : (t : Bool) → leb n 2047 ≡ t → pick (ltb 2047 n) false true ≡ both t true
-    go true e = rw (le-ltb 2047 n (leb-true n 2047 e))
-    go false e = rw (lt-ltb 2047 n (leb-false n 2047 e))
-
-pub sample-is : (x y z : ℤ) (t : ℕ) → accepted (sampleAnswer x y z) ≡ isSample (sample x y z t)
-unfolding sampleAnswer
-sample-is x y z t = rw (inside-is x, inside-is y, inside-is z) (go (isInside x) (isInside y) (isInside z))
-  where
-    go : (p q r : Bool) → accepted (pick (either (not p) (either (not q) (not r))) OutOfRange Done) ≡ both p (both q r)
-    go true true true = refl
-    go true true false = refl
-    go true false r = refl
-    go false q r = refl
-
 -- ---- one axis of the channels
 pub record Part (axis : Axis) (part : Channels → Channel) : Type 0 where
   pub low : axis .lsbAt < 0x3E
   pub zeros : axis .value noValues ≡ pos 0
   pub none : part noSamples ≡ noSample
   pub releases : (c : Channels) → part (released c) ≡ unlocked (part c)
-  pub samples : (x y z : ℤ) (t : ℕ) (c : Channels) → part (sampled (codes x y z) c) ≡ withSample (code (axis .value (valuesOf (sample x y z t)))) (part c)
-  pub inside : (x y z : ℤ) (t : ℕ) → isSample (sample x y z t) ≡ true → isInside (axis .value (valuesOf (sample x y z t))) ≡ true
+  pub samples : (x y z : ℤ) (t : ℕ) (h : List Event) (c : Channels) → part (sampled (codes x y z) c) ≡ withSample (code (axis .value (valuesAt h (sample x y z t)))) (part c)
+  pub inside : (x y z : ℤ) (t : ℕ) (h : List Event) → isSample (sample x y z t) ≡ true → isInside (axis .value (valuesAt h (sample x y z t))) ≡ true
   pub reads : (lock : Bool) (a : ℕ) (c : Channels)
       → part (afterRead lock a c) ≡ pick (eqb a (axis .lsbAt)) (afterLsb lock (part c)) (pick (eqb a (suc (axis .lsbAt))) (unlocked (part c)) (part c))
 
@@ -163,8 +139,8 @@ x-part = record {
   zeros = refl;
   none = refl;
   releases = λ c. refl;
-  samples = λ x y z t c. refl;
-  inside = λ x y z t h. left (isInside x) (both (isInside y) (isInside z)) h;
+  samples = λ x y z t h c. refl;
+  inside = λ x y z t h ok. left (isInside x) (both (isInside y) (isInside z)) ok;
   reads = λ lock a c. reads-at 0x02 refl refl (λ c. c .x) lock c (refl, (refl, (refl, (refl, (refl, (refl, tt)))))) a;
 }
 
@@ -175,8 +151,8 @@ y-part = record {
   zeros = refl;
   none = refl;
   releases = λ c. refl;
-  samples = λ x y z t c. refl;
-  inside = λ x y z t h. left (isInside y) (isInside z) (right (isInside x) (both (isInside y) (isInside z)) h);
+  samples = λ x y z t h c. refl;
+  inside = λ x y z t h ok. left (isInside y) (isInside z) (right (isInside x) (both (isInside y) (isInside z)) ok);
   reads = λ lock a c. reads-at 0x04 refl refl (λ c. c .y) lock c (refl, (refl, (refl, (refl, (refl, (refl, tt)))))) a;
 }
 
@@ -187,7 +163,7 @@ z-part = record {
   zeros = refl;
   none = refl;
   releases = λ c. refl;
-  samples = λ x y z t c. refl;
-  inside = λ x y z t h. right (isInside y) (isInside z) (right (isInside x) (both (isInside y) (isInside z)) h);
+  samples = λ x y z t h c. refl;
+  inside = λ x y z t h ok. right (isInside y) (isInside z) (right (isInside x) (both (isInside y) (isInside z)) ok);
   reads = λ lock a c. reads-at 0x06 refl refl (λ c. c .z) lock c (refl, (refl, (refl, (refl, (refl, (refl, tt)))))) a;
 }

@@ -12,7 +12,6 @@ use lib.IntN.{ℤ}
 use borrow.Author.Tests.{eqb-true, lt-ltb, le-leb}
 use Rattle.laws.specs.Choice.{pick, both}
 use Rattle.laws.specs.Bits.{bit}
-use Rattle.laws.proofs.Finite.{picked}
 use Rattle.codes.specs.Addresses.{shadowAt}
 use Rattle.table.specs.Rows.{theTable}
 use Rattle.channels.specs.Channels.{noSamples, sampled, released, afterLsb, unlocked, byteAt, lsb, msb}
@@ -32,13 +31,15 @@ use Rattle.events.specs.Bank.{bank}
 use Rattle.events.specs.Parts.{channelsNext}
 use Rattle.events.proofs.Parts.{channels-next}
 use Rattle.events.proofs.Runs.{bank-is}
-use Rattle.paper.specs.Stored.{ByteWrites, byteBy}
+use Rattle.paper.specs.Stored.{byteBy}
+use Rattle.paper.specs.Samples.{isSample, valuesAt}
 use Rattle.rules.specs.Bursts.{isBurst, singles, opened}
 use Rattle.paper.specs.Back.{beforeLast}
-use Rattle.rules.specs.Data.{isSample, isRead, isRelease, valuesOf, Axis, present, newData, locking, isLocked, lsbShown, msbShown, xAxis, yAxis, zAxis, dataBy}
+use Rattle.rules.specs.Data.{isRead, isRelease, Axis, present, newData, locking, isLocked, lsbShown, msbShown, xAxis, yAxis, zAxis, dataBy}
 use Rattle.paper.proofs.Stored.{stored-is}
+use Rattle.paper.proofs.Samples.{sample-is}
 use Rattle.rules.proofs.Bursts.{burst-is, burst-bounds, one-read, opened-same}
-use Rattle.rules.proofs.Channels.{no, Shows, starts, samples, reads-lsb, unlocks, passes, code-is, sample-is, Part, x-part, y-part, z-part}
+use Rattle.rules.proofs.Channels.{no, Shows, starts, samples, reads-lsb, unlocks, passes, code-is, Part, x-part, y-part, z-part}
 
 -- ---- a release
 shadow-accepted : (regs : List ℕ) (byte : ℕ) → accepted (writeAnswer regs shadowAt byte) ≡ true
@@ -82,15 +83,15 @@ module _ (axis : Axis) (part : Channels → Channel) (w : Part axis part) (h : L
         go false p false q = passes axis e h (channel h) s (record { is-start = p; is-sample = refl; is-lsb = refl; is-msb = refl; is-release = q })
 
     shows-sample : (x y z : ℤ) (t : ℕ) → Shows axis (sample x y z t ∷ h) (channel (sample x y z t ∷ h))
-    shows-sample x y z t = after-event (sample x y z t) (rw (sample-is x y z t) (go (isSample (sample x y z t)) refl))
+    shows-sample x y z t = after-event (sample x y z t) (rw (sample-is x y z) (go (isSample (sample x y z t)) refl))
       where
         e : Event
         e = sample x y z t
 
         go : (ok : Bool) → isSample e ≡ ok → Shows axis (e ∷ h) (part (pick ok (sampled (codes x y z) (after h .channels)) (after h .channels)))
         go true p =
-            rw (w .samples x y z t (after h .channels))
-            (samples axis e h (channel h) s (record { is-start = refl; is-sample = p; is-lsb = refl; is-msb = refl; is-release = refl }) _ (code-is (axis .value (valuesOf e)) (w .inside x y z t p)))
+            rw (w .samples x y z t h (after h .channels))
+            (samples axis e h (channel h) s (record { is-start = refl; is-sample = p; is-lsb = refl; is-msb = refl; is-release = refl }) _ (code-is (axis .value (valuesAt h e)) (w .inside x y z t h p)))
         go false p = passes axis e h (channel h) s (record { is-start = refl; is-sample = p; is-lsb = refl; is-msb = refl; is-release = refl })
 
     shows-cycle : Shows axis (cycle ∷ h) (channel (cycle ∷ h))
@@ -116,10 +117,10 @@ module _ (axis : Axis) (part : Channels → Channel) (w : Part axis part) (h : L
             go false f q g = refl
 
     -- a read of one byte below 0x3F
-    shows-one : ByteWrites h → (a : ℕ) → a < 0x3F → Shows axis (read a 1 ∷ h) (channel (read a 1 ∷ h))
+    shows-one : (a : ℕ) → a < 0x3F → Shows axis (read a 1 ∷ h) (channel (read a 1 ∷ h))
     unfolding channelsRead
-    shows-one b a l =
-        after-event (read a 1) (rw (one-read (after h) a l, add-zero, stored-is h b shadowAt (omega arith), w .reads (not (bit 6 (byteBy h 0x13))) a (after h .channels)) (go (eqb a (axis .lsbAt)) refl (eqb a (suc (axis .lsbAt))) refl))
+    shows-one a l =
+        after-event (read a 1) (rw (one-read (after h) a l, add-zero, stored-is h shadowAt (omega arith), w .reads (not (bit 6 (byteBy h 0x13))) a (after h .channels)) (go (eqb a (axis .lsbAt)) refl (eqb a (suc (axis .lsbAt))) refl))
       where
         e : Event
         e = read a 1
@@ -135,52 +136,38 @@ module _ (axis : Axis) (part : Channels → Channel) (w : Part axis part) (h : L
         go false f false g = passes axis e h (channel h) s (record { is-start = refl; is-sample = refl; is-lsb = rw f; is-msb = rw g; is-release = refl })
 
 -- ---- any events
-bytes-behind : (a n : ℕ) (h : List Event) → ByteWrites h → ByteWrites (scriptOnto (singles a n) h)
-bytes-behind a zero h b = b
-bytes-behind a (suc n) h b = bytes-behind (suc a) n (read a 1 ∷ h) b
-
-bytes-opened : (es : List Event) → ByteWrites es → ByteWrites (opened es)
-unfolding opened
-bytes-opened [] b = b
-bytes-opened (powerUp ∷ es) b = bytes-opened es b
-bytes-opened (write a byte ∷ es) b = (b .0, bytes-opened es (b .1))
-bytes-opened (read a n ∷ es) b = picked ByteWrites (isBurst a n) (bytes-behind a n (opened es) (bytes-opened es b)) (bytes-opened es b)
-bytes-opened (sample x y z t ∷ es) b = bytes-opened es b
-bytes-opened (cycle ∷ es) b = bytes-opened es b
-bytes-opened (clock us ∷ es) b = bytes-opened es b
-
 module _ (axis : Axis) (part : Channels → Channel) (w : Part axis part) where
   abbrev Right : List Event → Type 0
   Right h = Shows axis h (part (after h .channels))
 
-  shows-singles : (a n : ℕ) → a + n ≤ 0x3F → (h : List Event) → ByteWrites h → Right h → Right (scriptOnto (singles a n) h)
-  shows-singles a zero l h b s = s
-  shows-singles a (suc n) l h b s = shows-singles (suc a) n (omega arith) (read a 1 ∷ h) b (shows-one axis part w h s b a (omega arith))
+  shows-singles : (a n : ℕ) → a + n ≤ 0x3F → (h : List Event) → Right h → Right (scriptOnto (singles a n) h)
+  shows-singles a zero l h s = s
+  shows-singles a (suc n) l h s = shows-singles (suc a) n (omega arith) (read a 1 ∷ h) (shows-one axis part w h s a (omega arith))
 
-  shows-read : (a n : ℕ) (h : List Event) → ByteWrites h → Right h → Right (pick (isBurst a n) (scriptOnto (singles a n) h) (read a n ∷ h))
-  shows-read a n h b s = go (isBurst a n) refl
+  shows-read : (a n : ℕ) (h : List Event) → Right h → Right (pick (isBurst a n) (scriptOnto (singles a n) h) (read a n ∷ h))
+  shows-read a n h s = go (isBurst a n) refl
     where
       go : (t : Bool) → isBurst a n ≡ t → Right (pick t (scriptOnto (singles a n) h) (read a n ∷ h))
-      go true e = shows-singles a n (burst-bounds a n e .1) h b s
+      go true e = shows-singles a n (burst-bounds a n e .1) h s
       go false e = shows-other axis part w h s a n e
 
   shows-none : Right []
   unfolding after device.powerUp newData isLocked
   shows-none = rw (w .none) (record { code = rw (w .zeros); fresh = refl; locked = refl; held = no })
 
-  shows : (es : List Event) → ByteWrites es → Right (opened es)
+  shows : (es : List Event) → Right (opened es)
   unfolding opened
-  shows [] b = shows-none
-  shows (powerUp ∷ es) b = shows-start axis part w (opened es) (shows es b)
-  shows (write a byte ∷ es) b = shows-write axis part w (opened es) (shows es (b .1)) a byte
-  shows (read a n ∷ es) b = shows-read a n (opened es) (bytes-opened es b) (shows es b)
-  shows (sample x y z t ∷ es) b = shows-sample axis part w (opened es) (shows es b) x y z t
-  shows (cycle ∷ es) b = shows-cycle axis part w (opened es) (shows es b)
-  shows (clock us ∷ es) b = shows-clock axis part w (opened es) (shows es b) us
+  shows [] = shows-none
+  shows (powerUp ∷ es) = shows-start axis part w (opened es) (shows es)
+  shows (write a byte ∷ es) = shows-write axis part w (opened es) (shows es) a byte
+  shows (read a n ∷ es) = shows-read a n (opened es) (shows es)
+  shows (sample x y z t ∷ es) = shows-sample axis part w (opened es) (shows es) x y z t
+  shows (cycle ∷ es) = shows-cycle axis part w (opened es) (shows es)
+  shows (clock us ∷ es) = shows-clock axis part w (opened es) (shows es) us
 
-  module _ (es : List Event) (b : ByteWrites es) where
+  module _ (es : List Event) where
     here : Shows axis (opened es) (part (after es .channels))
-    here = subst (λ (d : Device). Shows axis (opened es) (part (d .channels))) (opened-same es) (shows es b)
+    here = subst (λ (d : Device). Shows axis (opened es) (part (d .channels))) (opened-same es) (shows es)
 
     lsb-is : lsb (part (after es .channels)) ≡ lsbShown axis (opened es)
     lsb-is = rw (here .code, here .fresh)
@@ -193,14 +180,14 @@ module _ (axis : Axis) (part : Channels → Channel) (w : Part axis part) where
         go true e = here .held e ∙ omega arith
         go false e = omega arith
 
-pub data-is : (es : List Event) → ByteWrites es → (a : ℕ) → byteAt (after es .channels) a ≡ dataBy (opened es) a
+pub data-is : (es : List Event) (a : ℕ) → byteAt (after es .channels) a ≡ dataBy (opened es) a
 unfolding byteAt dataBy
-data-is es b a =
+data-is es a =
     rw (
-      lsb-is xAxis (λ c. c .x) x-part es b,
-      msb-is xAxis (λ c. c .x) x-part es b,
-      lsb-is yAxis (λ c. c .y) y-part es b,
-      msb-is yAxis (λ c. c .y) y-part es b,
-      lsb-is zAxis (λ c. c .z) z-part es b,
-      msb-is zAxis (λ c. c .z) z-part es b,
+      lsb-is xAxis (λ c. c .x) x-part es,
+      msb-is xAxis (λ c. c .x) x-part es,
+      lsb-is yAxis (λ c. c .y) y-part es,
+      msb-is yAxis (λ c. c .y) y-part es,
+      lsb-is zAxis (λ c. c .z) z-part es,
+      msb-is zAxis (λ c. c .z) z-part es,
     )

@@ -12,9 +12,10 @@ use Rattle.events.specs.Run.{after}
 use Rattle.events.specs.Parts.{temperatureNext, cameNext}
 use Rattle.events.proofs.Parts.{by-parts}
 use Rattle.paper.specs.Stored.{isSoftReset}
-use Rattle.rules.specs.Data.{isSample, Values, noValues, valuesOf, lastSample}
+use Rattle.paper.specs.Samples.{isSample, Values, noValues, valuesAt}
+use Rattle.paper.proofs.Samples.{sample-is}
+use Rattle.rules.specs.Data.{lastSample}
 use Rattle.rules.specs.Rules.{cameBy}
-use Rattle.rules.proofs.Channels.{sample-is}
 
 module _ (e : Event) (es : List Event) where
   temperature-next : temperatureNext e (lastSample es .temperature) ≡ lastSample (e ∷ es) .temperature
@@ -26,7 +27,7 @@ module _ (e : Event) (es : List Event) where
       go (read a n) = refl
       go (sample x y z t) =
           let s = sample x y z t in
-          rw (sample-is x y z t) (sym (of-pick (λ (v : Values). v .temperature) (isSample s) (valuesOf s) (lastSample es)))
+          rw (sample-is x y z) (sym (of-pick (λ (v : Values). v .temperature) (isSample s) (valuesAt es s) (lastSample es)))
       go cycle = refl
       go (clock us) = refl
 
@@ -46,7 +47,7 @@ module _ (e : Event) (es : List Event) where
       go powerUp = refl
       go (write a byte) = wait (isSoftReset a byte) (cameBy es)
       go (read a n) = refl
-      go (sample x y z t) = rw (sample-is x y z t) (come (isSample (sample x y z t)) (cameBy es))
+      go (sample x y z t) = rw (sample-is x y z) (come (isSample (sample x y z t)) (cameBy es))
       go cycle = refl
       go (clock us) = refl
 

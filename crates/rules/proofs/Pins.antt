@@ -20,7 +20,6 @@ use Rattle.device.specs.Device.{reg}
 use Rattle.device.specs.Show.{pinsOf}
 use Rattle.events.specs.Event.{Event}
 use Rattle.events.specs.Run.{after}
-use Rattle.paper.specs.Stored.{ByteWrites}
 use Rattle.rules.specs.Shown.{bitSeen}
 use Rattle.rules.specs.Rules.{Place, statusAddresses, ruled, isTabled, Mapped, maps, isOne, someMapped, Leveled}
 use Rattle.rules.proofs.Worths.{holdsAt}
@@ -61,7 +60,7 @@ leveled active high opendrive = record {
   idle-low = λ a o h. rw (a, o, h);
 }
 
-module _ (es : List Event) (b : ByteWrites es) where
+module _ (es : List Event) where
   -- what is read at an address
   abbrev r : ℕ → ℕ
   r = ruled (elsewhereIn (after es)) es
@@ -70,7 +69,7 @@ module _ (es : List Event) (b : ByteWrites es) where
   one-is p n =
       let of = either (isIn statusAddresses (p .address)) (isTabled (p .address)) in
       let h = ltb-true (p .address) 0x3F (left (ltb (p .address) 0x3F) of n) in
-      go h (isIn statusAddresses (p .address)) refl (right (ltb (p .address) 0x3F) of n) ∙ ap (bit (p .number)) (byte-seen es b (p .address) h)
+      go h (isIn statusAddresses (p .address)) refl (right (ltb (p .address) 0x3F) of n) ∙ ap (bit (p .number)) (byte-seen es (p .address) h)
     where
       go : p .address < 0x3F → (t : Bool) → isIn statusAddresses (p .address) ≡ t → either t (isTabled (p .address)) ≡ true
           → pick t (holdsAt (p .address) (p .number) (shownIn (statusesNow es) allStatuses)) (bit (p .number) (reg (after es) (p .address))) ≡ bitSeen es (p .address) (p .number)
@@ -86,7 +85,7 @@ module _ (es : List Event) (b : ByteWrites es) where
   active-2 = same-mapped (isOneIn (statusesNow es) (after es .regs)) (isOne (ruled (elsewhereIn (after es)) es)) one-is (λ m. m .int2) maps refl
 
   drive-is : reg (after es) 0x20 ≡ ruled (elsewhereIn (after es)) es 0x20
-  drive-is = sym (tabled-seen es 0x20 (omega arith) refl) ∙ byte-seen es b 0x20 (omega arith)
+  drive-is = sym (tabled-seen es 0x20 (omega arith) refl) ∙ byte-seen es 0x20 (omega arith)
 
   pub pins : let r = ruled (elsewhereIn (after es)) es in
       Leveled (someMapped (isOne r) (λ m. m .int1) maps) (bit 0 (r 0x20)) (bit 1 (r 0x20)) (pinsOf (after es) .int1)

@@ -35,7 +35,6 @@ use Rattle.events.specs.Event.{Event, read, Given, gives, bytes}
 use Rattle.events.specs.Run.{after, allGiven, bytesJoined}
 use Rattle.events.specs.Bank.{stored}
 use Rattle.events.proofs.Runs.{bank-is}
-use Rattle.paper.specs.Stored.{ByteWrites}
 use Rattle.rules.specs.Bursts.{isBurst, singles}
 use Rattle.rules.specs.Data.{lastSample}
 use Rattle.rules.specs.Shown.{byteSeen, bitSeen}
@@ -101,19 +100,18 @@ module _ (es : List Event) where
   abbrev pub statusesNow : Statuses
   statusesNow = statusesIn (after es .regs) (insideOf (after es))
 
-  module _ (b : ByteWrites es) where
-    -- one by one they are those of the rules
-    pub statuses-are : shownIn statusesNow allStatuses ≡ statusesBy w es
-    unfolding statusesOf
-    statuses-are =
-        rw (few-held, reached-here, came-is es, bank-is es, depth-is (stored es controlAt) (mode-known es), stored-is es b enablesAt (omega arith), stored-is es b levelAt (omega arith), stored-is es b controlAt (omega arith))
+  -- one by one they are those of the rules
+  pub statuses-are : shownIn statusesNow allStatuses ≡ statusesBy w es
+  unfolding statusesOf
+  statuses-are =
+      rw (few-held, reached-here, came-is es, bank-is es, depth-is (stored es controlAt) (mode-known es), stored-is es enablesAt (omega arith), stored-is es levelAt (omega arith), stored-is es controlAt (omega arith))
 
-    status-byte : (a : ℕ) → statusByte a statusesNow ≡ worthsAt a (statusesBy w es)
-    status-byte a = byte-worth a statusesNow ∙ ap (worthsAt a) statuses-are
+  status-byte : (a : ℕ) → statusByte a statusesNow ≡ worthsAt a (statusesBy w es)
+  status-byte a = byte-worth a statusesNow ∙ ap (worthsAt a) statuses-are
 
-    pub byte-ruled : (a : ℕ) → a < 64 → singleByte (after es) a ≡ ruled (elsewhereIn (after es)) es a
-    unfolding ruled
-    byte-ruled a h = single-is (after es) a h ∙ rw (data-is es b a, temperature-is es, status-byte a, few-held, ← stored-is es b a h, ← bank-is es)
+  pub byte-ruled : (a : ℕ) → a < 64 → singleByte (after es) a ≡ ruled (elsewhereIn (after es)) es a
+  unfolding ruled
+  byte-ruled a h = single-is (after es) a h ∙ rw (data-is es a, temperature-is es, status-byte a, few-held, ← stored-is es a h, ← bank-is es)
 
 -- ---- any length
 -- a read below 0x3F moves the channels alone
@@ -121,21 +119,21 @@ same-elsewhere : (es : List Event) (a : ℕ) → a < 0x3F → elsewhereIn (after
 unfolding after
 same-elsewhere es a h = ap elsewhereIn (single-next (after es) a h)
 
-module _ (es : List Event) (b : ByteWrites es) (a n : ℕ) (h : a < 0x3F) where
+module _ (es : List Event) (a n : ℕ) (h : a < 0x3F) where
   one-ruled : gives (after es) (read a 1) ≡ bytes (ruled (elsewhereIn (after es)) es a ∷ [])
-  one-ruled = single (after es) a h ∙ rw (byte-ruled es b a (omega arith))
+  one-ruled = single (after es) a h ∙ rw (byte-ruled es a (omega arith))
 
   more-ruled : bytesJoined (allGiven (after (read a 1 ∷ es)) (singles (suc a) n)) ≡ ruledFrom (elsewhereIn (after (read a 1 ∷ es))) (read a 1 ∷ es) (suc a) n
       → bytesJoined (allGiven (after es) (singles a (suc n))) ≡ ruledFrom (elsewhereIn (after es)) es a (suc n)
   unfolding after
   more-ruled same = rw (ap (λ (g : Given). g .bytes) one-ruled, same, same-elsewhere es a h)
 
-singles-ruled : (es : List Event) → ByteWrites es → (a n : ℕ) → a + n ≤ 0x3F → bytesJoined (allGiven (after es) (singles a n)) ≡ ruledFrom (elsewhereIn (after es)) es a n
-singles-ruled es b a zero h = refl
-singles-ruled es b a (suc n) h = more-ruled es b a n (omega arith) (singles-ruled (read a 1 ∷ es) b (suc a) n (omega arith))
+singles-ruled : (es : List Event) (a n : ℕ) → a + n ≤ 0x3F → bytesJoined (allGiven (after es) (singles a n)) ≡ ruledFrom (elsewhereIn (after es)) es a n
+singles-ruled es a zero h = refl
+singles-ruled es a (suc n) h = more-ruled es a n (omega arith) (singles-ruled (read a 1 ∷ es) (suc a) n (omega arith))
 
-pub reads : (es : List Event) → ByteWrites es → (a n : ℕ) → isBurst a n ≡ true → gives (after es) (read a n) ≡ bytes (ruledFrom (elsewhereIn (after es)) es a n)
-reads es b a n h = burst-gives (after es) a n h ∙ rw (singles-ruled es b a n (burst-bounds a n h .1))
+pub reads : (es : List Event) (a n : ℕ) → isBurst a n ≡ true → gives (after es) (read a n) ≡ bytes (ruledFrom (elsewhereIn (after es)) es a n)
+reads es a n h = burst-gives (after es) a n h ∙ rw (singles-ruled es a n (burst-bounds a n h .1))
 
 -- ---- the rule of each address that is not of the table
 module _ (es : List Event) where
@@ -179,8 +177,8 @@ module _ (es : List Event) where
   seen : (a : ℕ) → a < 0x3F → byteSeen es a ≡ singleByte (after es) a
   seen a h = ap (λ (g : Given). getD (g .bytes) 0 0) (single (after es) a h)
 
-  pub byte-seen : ByteWrites es → (a : ℕ) → a < 0x3F → byteSeen es a ≡ ruled (elsewhereIn (after es)) es a
-  byte-seen b a h = seen a h ∙ byte-ruled es b a (omega arith)
+  pub byte-seen : (a : ℕ) → a < 0x3F → byteSeen es a ≡ ruled (elsewhereIn (after es)) es a
+  byte-seen a h = seen a h ∙ byte-ruled es a (omega arith)
 
   pub tabled-seen : (a : ℕ) → a < 0x3F → isTabled a ≡ true → byteSeen es a ≡ reg (after es) a
   tabled-seen a h t = seen a h ∙ tabled-byte (after es) a (omega arith) t
@@ -198,11 +196,11 @@ module _ (es : List Event) where
   motion-seen = status-seen 0x09 refl 2
 
   -- "data (0x0A bit 7)", "watermark (0x0A bit 6)", "full (0x0A bit 5)"
-  pub interrupts-seen : ByteWrites es → let w = elsewhereIn (after es) in (bitSeen es 0x0A 7 ≡ dataStatus w es) × (bitSeen es 0x0A 6 ≡ watermarkStatus w es) × (bitSeen es 0x0A 5 ≡ fullStatus w es)
-  interrupts-seen b = (of 7, of 6, of 5)
+  pub interrupts-seen : let w = elsewhereIn (after es) in (bitSeen es 0x0A 7 ≡ dataStatus w es) × (bitSeen es 0x0A 6 ≡ watermarkStatus w es) × (bitSeen es 0x0A 5 ≡ fullStatus w es)
+  interrupts-seen = (of 7, of 6, of 5)
     where
       of : (k : ℕ) → bitSeen es 0x0A k ≡ holdsAt 0x0A k (statusesBy (elsewhereIn (after es)) es)
-      of k = status-seen 0x0A refl k ∙ ap (holdsAt 0x0A k) (statuses-are es b)
+      of k = status-seen 0x0A refl k ∙ ap (holdsAt 0x0A k) (statuses-are es)
 
   -- "0x0B bits 2:0 (z, y, x) mark the first over axis .., and bit 3 is 1 for a negative difference"
   pub marks-seen : let a = after es .detectors .motion .alarm in (bitSeen es 0x0B 3 ≡ a .negative) × (byteSeen es 0x0B % 8 ≡ a .mark)

@@ -3,27 +3,16 @@ use Prim.Native.Nat.{ℕ, suc, _+_, _*_, _/_, _%_}
 use mathlib.Core.Bool.{Bool, false, not}
 use mathlib.Core.List.{List, [], _∷_}
 use lib.Dec.{eqb}
-use lib.IntN.{ℤ, pos, negsuc, natAbs, _+ℤ_}
-use lib.Signed.{leZ}
+use lib.IntN.{ℤ, pos, natAbs, _+ℤ_}
 use Rattle.laws.specs.Choice.{pick, both, either}
 use Rattle.laws.specs.Bits.{bit, worth}
 use Rattle.events.specs.Event.{Event}
-use Rattle.events.specs.Views.{isPowerUp, atWrite, atRead, atSample}
-use Rattle.paper.specs.Stored.{isSoftReset, byteBy}
+use Rattle.events.specs.Views.{atWrite, atRead}
+use Rattle.paper.specs.Stored.{startsAnew, byteBy}
+use Rattle.paper.specs.Samples.{Values, noValues, isSample, valuesAt}
 use Rattle.paper.specs.Back.{someSince, beforeLast}
 
 -- ---- events
--- power-up or soft reset: "everything as at power-up"
-abbrev pub isStart : Event → Bool
-isStart e = either (isPowerUp e) (atWrite false isSoftReset e)
-
--- an accepted sample: "x, y or z outside -2048..2047" is refused
-abbrev pub isInside : ℤ → Bool
-isInside v = both (leZ (negsuc 2047) v) (leZ v (pos 2047))
-
-abbrev pub isSample : Event → Bool
-isSample e = atSample false (λ x y z temperature. both (isInside x) (both (isInside y) (isInside z))) e
-
 -- a read of one byte, at address at
 abbrev pub isRead : ℕ → Event → Bool
 isRead at e = atRead false (λ a n. both (eqb a at) (eqb n 1)) e
@@ -33,21 +22,9 @@ abbrev pub isRelease : Event → Bool
 isRelease e = atWrite false (λ a byte. both (eqb a 0x13) (bit 6 byte)) e
 
 -- ---- the last accepted sample since power-up or soft reset; before any, all is 0
-pub record Values : Type 0 where
-  pub x : ℤ
-  pub y : ℤ
-  pub z : ℤ
-  pub temperature : ℕ
-
-abbrev pub noValues : Values
-noValues = record { x = pos 0; y = pos 0; z = pos 0; temperature = 0 }
-
-abbrev pub valuesOf : Event → Values
-valuesOf e = atSample noValues (λ x y z temperature. record { x = x; y = y; z = z; temperature = temperature }) e
-
 abbrev pub lastSample : List Event → Values
 lastSample [] = noValues
-lastSample (e ∷ es) = pick (isStart e) noValues (pick (isSample e) (valuesOf e) (lastSample es))
+lastSample (e ∷ es) = pick (startsAnew e) noValues (pick (isSample e) (valuesAt es e) (lastSample es))
 
 -- "A sample is 12-bit two's complement"
 abbrev pub twelveBits : ℤ → ℕ
@@ -65,7 +42,7 @@ module _ (axis : Axis) where
 
   -- "A sample sets all three new-data bits"; "Reading an LSB register clears that axis's bit after the byte is given"
   unfoldable pub newData : List Event → Bool
-  newData es = someSince (λ e h. isSample e) (λ e h. either (isStart e) (isRead (axis .lsbAt) e)) es
+  newData es = someSince (λ e h. isSample e) (λ e h. either (startsAnew e) (isRead (axis .lsbAt) e)) es
 
   -- "With 0x13 bit 6 at 0 it also locks the MSB to the present sample; reading the LSB again locks anew"
   abbrev pub locking : Event → List Event → Bool
@@ -73,7 +50,7 @@ module _ (axis : Axis) where
 
   -- "Reading the MSB .. unlocks"; "Writing 0x13 with bit 6 at 1 releases all locks"
   abbrev pub unlocking : Event → List Event → Bool
-  unlocking e h = either (isStart e) (either (isRead (suc (axis .lsbAt)) e) (isRelease e))
+  unlocking e h = either (startsAnew e) (either (isRead (suc (axis .lsbAt)) e) (isRelease e))
 
   unfoldable pub isLocked : List Event → Bool
   isLocked es = someSince locking unlocking es

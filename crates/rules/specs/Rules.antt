@@ -13,10 +13,11 @@ use Rattle.interrupts.specs.declared.Level.{Level}
 use Rattle.interrupts.specs.declared.Level.the-variants.{Low, High, Released}
 use Rattle.events.specs.Event.{Event, read}
 use Rattle.events.specs.Views.{isCycle}
-use Rattle.paper.specs.Stored.{byteBy}
+use Rattle.paper.specs.Stored.{startsAnew, byteBy}
+use Rattle.paper.specs.Samples.{isSample}
 use Rattle.rules.specs.Bursts.{opened}
 use Rattle.paper.specs.Back.{someSince}
-use Rattle.rules.specs.Data.{isStart, isSample, lastSample, dataAddresses, dataBy}
+use Rattle.rules.specs.Data.{lastSample, dataAddresses, dataBy}
 
 -- ---- statuses
 -- a bit of a register
@@ -52,7 +53,7 @@ pub record Elsewhere : Type 0 where
 -- ---- what else the statuses are made of
 -- "an accepted sample came since the last cycle start or reset"
 unfoldable pub cameBy : List Event → Bool
-cameBy es = someSince (λ e h. isSample e) (λ e h. either (isStart e) (isCycle e)) es
+cameBy es = someSince (λ e h. isSample e) (λ e h. either (startsAnew e) (isCycle e)) es
 
 -- "Depth is 32 in FIFO and STREAM, 1 in BYPASS"; "bits 7:6 are 00 BYPASS"
 abbrev pub depthBy : List Event → ℕ

@@ -1,0 +1,76 @@
+-- The readouts and the clears in 01's words are those of the device.
+-- Assumes nothing.
+use Prim.Native.Nat.{ℕ}
+use mathlib.Core.Bool.{Bool, true, false, not}
+use mathlib.Core.List.{List}
+use mathlib.Core.Path.{_≡_, refl, sym, _∙_}
+use mathlib.Core.Logic.{_≢_}
+use native.Mathlib.Omega.{arith}
+use borrow.Author.Tests.{eqb-true, eqb-false, ltb-true, ltb-false, lt-leb, le-leb}
+use lib.Dec.{eqb, leb, ltb}
+use Rattle.laws.specs.Choice.{pick, both, either}
+use Rattle.codes.specs.Addresses.{controlAt, framesAt}
+use Rattle.codes.specs.Mode.{modeOf, isReservedMode}
+use Rattle.registers.specs.Answers.{accepted}
+use Rattle.registers.specs.Deeds.{isReset, clears}
+use Rattle.registers.specs.Refused.{readAnswer}
+use Rattle.registers.specs.declared.Answer.the-variants.{Done, BadLength}
+use Rattle.registers.proofs.Verdicts.{control-accepted}
+use Rattle.events.specs.Event.{Event, write}
+use Rattle.events.specs.Bank.{bank}
+use Rattle.events.specs.Parts.{readsFrames}
+use Rattle.paper.specs.Stored.{isAccepted}
+use Rattle.paper.specs.Readouts.{readsOut, clearsFifo}
+use Rattle.paper.proofs.Stored.{accepted-is}
+
+-- ---- readouts
+at-frames : (n : ℕ) → accepted (readAnswer framesAt n) ≡ both (leb 1 n) (leb n 192)
+unfolding readAnswer
+at-frames n = go (eqb n 0) refl (ltb 192 n) refl
+  where
+    go : (t : Bool) → eqb n 0 ≡ t → (s : Bool) → ltb 192 n ≡ s → accepted (readAnswer framesAt n) ≡ both (leb 1 n) (leb n 192)
+    go true e s f = rw (eqb-true n 0 e)
+    go false e s f =
+        let some : n ≢ 0 = eqb-false n 0 e in
+        rw (e, f, le-leb 1 n (omega arith)) (long s f)
+      where
+        long : (s : Bool) → ltb 192 n ≡ s → accepted (pick s BadLength Done) ≡ leb n 192
+        long true f = sym (lt-leb n 192 (ltb-true 192 n f))
+        long false f = sym (le-leb n 192 (ltb-false 192 n f))
+
+pub readout-is : (a n : ℕ) → readsFrames a n ≡ readsOut a n
+unfolding readsOut
+readout-is a n = go (eqb a framesAt) refl
+  where
+    go : (t : Bool) → eqb a framesAt ≡ t → readsFrames a n ≡ both (eqb a 0x3F) (both (leb 1 n) (leb n 192))
+    go true e = rw (eqb-true a framesAt e) (last (accepted (readAnswer framesAt n)) ∙ at-frames n)
+      where
+        last : (t : Bool) → both t true ≡ t
+        last true = refl
+        last false = refl
+    go false e = rw e (none (accepted (readAnswer a n)))
+      where
+        none : (t : Bool) → both t false ≡ false
+        none true = refl
+        none false = refl
+
+-- ---- clears
+pub clears-is : (es : List Event) (a byte : ℕ) → clears a byte ≡ clearsFifo es (write a byte)
+unfolding clears
+clears-is es a byte = go (eqb a controlAt) refl
+  where
+    swapped : (t s : Bool) → either t s ≡ either s (both t true)
+    swapped true true = refl
+    swapped true false = refl
+    swapped false true = refl
+    swapped false false = refl
+
+    alone : (s t : Bool) → s ≡ either s (both t false)
+    alone true t = refl
+    alone false true = refl
+    alone false false = refl
+
+    go : (t : Bool) → eqb a controlAt ≡ t → clears a byte ≡ clearsFifo es (write a byte)
+    go true e =
+        rw (eqb-true a controlAt e, ← accepted-is es controlAt byte, control-accepted (bank es) byte) (swapped (not (isReservedMode (modeOf byte))) (isReset controlAt byte))
+    go false e = rw e (alone (isReset a byte) (isAccepted es a byte))
