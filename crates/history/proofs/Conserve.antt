@@ -6,14 +6,14 @@ use mathlib.Core.List.{List, [], _∷_}
 use mathlib.Core.Logic.{_↔_, Iff·rfl, Iff·trans}
 use mathlib.Core.Path.{_≡_, refl, ap, _∙_}
 use native.Mathlib.Omega.{arith}
-use lib.Dec.{ltb}
+use lib.Dec.{eqb, ltb}
 use lib.ListN.{length}
 use borrow.Author.Tests.{eqb-true}
 use Rattle.laws.specs.Bits.{worth}
 use Rattle.laws.specs.Bytes.{firstOrZeros, zeros}
 use Rattle.laws.specs.Choice.{pick}
 use Rattle.laws.proofs.Bytes.{length-zeros}
-use Rattle.laws.proofs.Finite.{left, right}
+use Rattle.laws.proofs.Finite.{left, picked}
 use Rattle.codes.specs.Addresses.{framesAt}
 use Rattle.codes.specs.Axes.{axesOf}
 use Rattle.codes.specs.Mode.{modeOf, isReservedMode}
@@ -30,23 +30,25 @@ use Rattle.fifo.proofs.Bounds.{depth-most, depth-some, size-bounds}
 use Rattle.fifo.proofs.Conserve.{conserved, any-lost}
 use Rattle.fifo.proofs.Store.{bytes-packed, status-packed}
 use Rattle.registers.specs.Answers.{accepted}
-use Rattle.registers.specs.Deeds.{clears}
 use Rattle.registers.specs.Refused.{readAnswer}
 use Rattle.device.specs.Device.{depth, flatOf}
 use Rattle.device.specs.Read.{bufferAfter, singleBytes, afterSingles, byteFrom}
-use Rattle.device.specs.Sample.{sampleAnswer}
 use Rattle.device.specs.Show.{shownByte}
 use Rattle.device.specs.declared.Device.{Device}
 use Rattle.events.specs.Event.{Event, powerUp, write, read, sample, cycle, clock}
 use Rattle.events.specs.Run.{after}
+use Rattle.events.specs.Views.{atRead}
+use Rattle.paper.specs.Samples.{Values, isSample, valuesAt}
+use Rattle.paper.specs.Readouts.{readsOut, clearsFifo}
+use Rattle.paper.proofs.Readouts.{readout-is}
 use Rattle.demand3.specs.Chip.{Said, cleared, sampled, readOut, nothing, since}
 use Rattle.demand3.specs.Demand.{fates}
-use Rattle.history.specs.History.{readsOut, control, setting, frame, saysHere, accelerometer, twin, LostIn, Demand3Here}
+use Rattle.history.specs.History.{control, setting, frameAt, saysHere, accelerometer, twin, LostIn, Demand3Here}
 use Rattle.demand3.specs.Lost.{LostBy}
 use Rattle.demand3.specs.Whole.{OverClears}
 use Rattle.demand3.proofs.Chip.{isCleared, Lawful, Follows, conserves}
 use Rattle.demand3.proofs.Whole.{over-clears}
-use Rattle.history.proofs.Holds.{Holds, frame-long, queueAt, holds-after, deep}
+use Rattle.history.proofs.Holds.{Holds, control-kept, frame-long, queueAt, holds-after, deep}
 
 -- ---- a device that holds a queue
 module _ {c : ℕ} {q : Queue (List ℕ)} {d : Device} (h : Holds c q d) where
@@ -59,50 +61,48 @@ module _ {c : ℕ} {q : Queue (List ℕ)} {d : Device} (h : Holds c q d) where
 
   -- the bytes of a readout
   module _ (n : ℕ) (e : readsOut framesAt n ≡ true) where
-    abbrev ok : accepted (readAnswer framesAt n) ≡ true
-    unfolding readsOut
-    ok = left (accepted (readAnswer framesAt n)) _ e
+    ok : accepted (readAnswer framesAt n) ≡ true
+    ok = left (accepted (readAnswer framesAt n)) _ (readout-is framesAt n ∙ e)
 
     held-given : bufferAfter d framesAt (zeros n) ≡ firstOrZeros n (flat (q .frames))
     unfolding bufferAfter
-    held-given = rw (length-zeros, ok, h .regs .control, h .same) (bytes-packed (h .fits) n)
+    held-given = rw (length-zeros, ok, h .control, h .same) (bytes-packed (h .fits) n)
 
 -- ---- the accelerometer is a chip
 steady : (es : List Event) (e : Event) → isCleared (saysHere es e) ≡ false → setting (e ∷ es) ≡ setting es
-unfolding control saysHere
-steady es powerUp h = cc
-steady es (write a byte) h = go (clears a byte) refl h
+unfolding saysHere
+steady es e h = ap (λ (c : ℕ). settingOf depth (modeOf c) (axesOf c)) (control-kept es e (go (clearsFifo es e) _ h))
   where
-    go : (b : Bool) → clears a byte ≡ b → isCleared (pick b cleared nothing) ≡ false → setting (write a byte ∷ es) ≡ setting es
-    go true e h = cc
-    go false e h = rw e
-steady es (read a n) h = refl
-steady es (sample x y z t) h = refl
-steady es cycle h = refl
-steady es (clock us) h = refl
+    go : (t : Bool) (w : Said) → isCleared (pick t cleared w) ≡ false → t ≡ false
+    go true w h = cc
+    go false w h = refl
 
--- what says something was accepted
-abbrev isNothing : Said → Bool
-isNothing cleared = false
-isNothing (sampled f) = false
-isNothing (readOut n) = false
-isNothing nothing = true
+-- of what an event that does not clear the FIFO says: a frame, or a readout
+abbrev isFrame : Said → Bool
+isFrame cleared = false
+isFrame (sampled f) = true
+isFrame (readOut n) = false
+isFrame nothing = false
 
-said : (b : Bool) (x w : Said) → isNothing w ≡ false → pick b x nothing ≡ w → (b ≡ true) × (x ≡ w)
-said true x w h q = (refl, q)
-said false x w h q = let f : true ≡ false = rw (← q) at h in (cc, cc)
+readout-said : (e : Event) → isFrame (atRead nothing (λ a n. pick (readsOut a n) (readOut n) nothing) e) ≡ false
+readout-said powerUp = refl
+readout-said (write a byte) = refl
+readout-said (read a n) = picked (λ (w : Said). isFrame w ≡ false) (readsOut a n) refl refl
+readout-said (sample x y z t) = refl
+readout-said cycle = refl
+readout-said (clock us) = refl
 
 one-size : (es : List Event) (e : Event) (f : List ℕ) → saysHere es e ≡ sampled f → length f ≡ setting es .size
 unfolding saysHere
-one-size es powerUp f q = cc
-one-size es (write a byte) f q = let p = said (clears a byte) cleared (sampled f) refl q .1 in cc
-one-size es (read a n) f q = let p = said (readsOut a n) (readOut n) (sampled f) refl q .1 in cc
-one-size es (sample x y z t) f q =
-    let p = said (accepted (sampleAnswer x y z)) (sampled (frame (axesOf (control es)) x y z)) (sampled f) refl q .1 in
-    let e : f ≡ frame (axesOf (control es)) x y z = cc in
-    rw e (frame-long (axesOf (control es)) x y z .1)
-one-size es cycle f q = cc
-one-size es (clock us) f q = cc
+one-size es e f = go (clearsFifo es e) (isSample e)
+  where
+    v : Values
+    v = valuesAt es e
+
+    go : (t s : Bool) → pick t cleared (pick s (sampled (frameAt es v)) (atRead nothing (λ a n. pick (readsOut a n) (readOut n) nothing) e)) ≡ sampled f → length f ≡ setting es .size
+    go true s q = cc
+    go false true q = let k : f ≡ frameAt es v = cc in rw k (frame-long (axesOf (control es)) (v .x) (v .y) (v .z) .1)
+    go false false q = cc (readout-said e, ap isFrame q)
 
 pub lawful : Lawful accelerometer
 lawful = record {
@@ -116,19 +116,28 @@ lawful = record {
 -- ---- and the device is a twin of it
 at-frames : (a n : ℕ) → readsOut a n ≡ true → readsOut framesAt n ≡ true
 unfolding readsOut
-at-frames a n e = let s : a ≡ framesAt = eqb-true a framesAt (right (accepted (readAnswer a n)) _ e) in rw s at e
+at-frames a n e = let s : a ≡ framesAt = eqb-true a framesAt (left (eqb a framesAt) _ e) in rw s at e
+
+read-said : (n : ℕ) (e : Event) → atRead nothing (λ a m. pick (readsOut a m) (readOut m) nothing) e ≡ readOut n → readsOut framesAt n ≡ true
+read-said n powerUp q = cc
+read-said n (write a byte) q = cc
+read-said n (read a m) q = go (readsOut a m) refl q
+  where
+    go : (t : Bool) → readsOut a m ≡ t → pick t (readOut m) nothing ≡ readOut n → readsOut framesAt n ≡ true
+    go true e q = let k : n ≡ m = cc in rw k (at-frames a m e)
+    go false e q = cc
+read-said n (sample x y z t) q = cc
+read-said n cycle q = cc
+read-said n (clock us) q = cc
 
 readout-only : (es : List Event) (e : Event) (n : ℕ) → saysHere es e ≡ readOut n → readsOut framesAt n ≡ true
 unfolding saysHere
-readout-only es powerUp n q = cc
-readout-only es (write a byte) n q = let p = said (clears a byte) cleared (readOut n) refl q .1 in cc
-readout-only es (read a m) n q =
-    let p = said (readsOut a m) (readOut m) (readOut n) refl q in
-    let k : n ≡ m = cc in
-    rw k (at-frames a m (p .0))
-readout-only es (sample x y z t) n q = let p = said (accepted (sampleAnswer x y z)) (sampled (frame (axesOf (control es)) x y z)) (readOut n) refl q .1 in cc
-readout-only es cycle n q = cc
-readout-only es (clock us) n q = cc
+readout-only es e n = go (clearsFifo es e) (isSample e)
+  where
+    go : (t s : Bool) → pick t cleared (pick s (sampled (frameAt es (valuesAt es e))) (atRead nothing (λ a m. pick (readsOut a m) (readOut m) nothing) e)) ≡ readOut n → readsOut framesAt n ≡ true
+    go true s q = cc
+    go false true q = cc
+    go false false q = read-said n e q
 
 follows : Follows accelerometer twin
 unfolding twin queueAt zeros

@@ -1,55 +1,70 @@
--- After any events the device is the one that its history tells: 0x3E is as the last clear left it, and the FIFO is the one store
+-- After any events the device is the one that its history tells: at 0x3E stands what the last clear left, and the FIFO is the one store
 -- that holds what the FIFO of the ledger holds.
 -- Assumes nothing.
 use Prim.Native.Nat.{ℕ, _≤_}
 use mathlib.Core.Bool.{Bool, true, false}
 use mathlib.Core.List.{List, [], _∷_}
-use mathlib.Core.Path.{_≡_, refl, _∙_}
+use mathlib.Core.Path.{_≡_, refl, ap, _∙_}
 use native.Mathlib.Omega.{arith}
 use lib.Dec.{eqb}
 use lib.IntN.{ℤ}
-use lib.ListN.{length, take}
-use Rattle.laws.specs.Choice.{pick}
-use Rattle.codes.specs.Addresses.{framesAt}
+use lib.ListN.{length, getD, take}
+use Rattle.laws.specs.Choice.{pick, both, either}
+use Rattle.codes.specs.Addresses.{controlAt}
 use Rattle.codes.specs.Axes.{axesOf}
 use Rattle.codes.specs.Mode.{modeOf, isReservedMode}
 use Rattle.codes.specs.declared.Axes.{Axes}
 use Rattle.codes.specs.declared.Axes.the-variants.{All, X, Y, Z}
-use Rattle.fifo.specs.Flat.{packed}
+use Rattle.fifo.specs.Flat.{Flat, packed}
 use Rattle.fifo.specs.Ledger as ledger
 use Rattle.fifo.specs.Ledger.{run}
-use Rattle.fifo.specs.Queue.{Queue, empty, pushed, without, framesReached}
+use Rattle.fifo.specs.Queue.{Queue}
 use Rattle.fifo.specs.Setting.{sizeOf, settingOf}
-use Rattle.fifo.specs.Store.{room}
+use Rattle.fifo.specs.Store.{room, emptied, pushedAt, readoutAt}
 use Rattle.fifo.proofs.Bounds.{Deep}
 use Rattle.fifo.proofs.Store.{Fits, fits-empty, fits-pushed, fits-read, pushed-packed, read-packed, empty-packed}
 use Rattle.channels.specs.Codes.{codes}
-use Rattle.registers.specs.Answers.{accepted}
-use Rattle.registers.specs.Deeds.{clears}
-use Rattle.registers.specs.Refused.{readAnswer}
-use Rattle.registers.proofs.Verdicts.{empties-is}
 use Rattle.device.specs.Device as device
 use Rattle.device.specs.Device.{depth, flatOf}
-use Rattle.device.specs.Read.{readOf, afterReadout, afterSingles}
-use Rattle.device.specs.Sample.{sampleAnswer, sampleOf, afterAccepted, cycleOf, frameOf}
-use Rattle.device.specs.Clock.{clockOf}
-use Rattle.device.specs.Write.{writeOf, written}
+use Rattle.device.specs.Sample.{frameOf}
 use Rattle.device.specs.declared.Device.{Device}
-use Rattle.device.proofs.Laws.{after-is}
 use Rattle.events.specs.Event.{Event, powerUp, write, read, sample, cycle, clock}
 use Rattle.events.specs.Run.{after}
+use Rattle.events.specs.Parts.{flatNext}
+use Rattle.events.proofs.Parts.{flat-next}
+use Rattle.events.proofs.Runs.{bank-is}
+use Rattle.paper.specs.Stored.{isSoftReset, none, last, byteLeft, lastWrite, byteBy, isAccepted}
+use Rattle.paper.specs.Samples.{allInside}
+use Rattle.paper.specs.Readouts.{readsOut, clearsFifo}
+use Rattle.paper.proofs.Stored.{stored-is}
+use Rattle.paper.proofs.Codes.{mode-known}
+use Rattle.paper.proofs.Samples.{sample-is}
+use Rattle.paper.proofs.Readouts.{readout-is, clears-is}
 use Rattle.demand3.specs.Chip.{since}
-use Rattle.history.specs.History.{readsOut, controlBy, control, frame, saysHere, accelerometer}
-use Rattle.history.proofs.Writes.{Banked, banked-first, banked-written, clears-mode}
+use Rattle.history.specs.History.{control, frame, saysHere, accelerometer}
 
--- the device d has c at 0x3E and holds the queue q
-pub record Holds (c : ℕ) (q : Queue (List ℕ)) (d : Device) : Type 0 where
-  pub regs : Banked c (d .regs)
-  pub same : flatOf d ≡ packed room q
-  pub fits : Fits room depth (axesOf c) q
-  -- the mode is one of 01's three
-  pub mode : isReservedMode (modeOf c) ≡ false
+-- ---- 0x3E
+control-is : (es : List Event) → getD (after es .regs) controlAt 0 ≡ control es
+control-is es = ap (λ (regs : List ℕ). getD regs controlAt 0) (bank-is es) ∙ stored-is es controlAt (omega arith)
 
+-- what does not clear the FIFO leaves it
+pub control-kept : (es : List Event) (e : Event) → clearsFifo es e ≡ false → control (e ∷ es) ≡ control es
+unfolding byteBy
+control-kept es powerUp h = cc
+control-kept es (write a byte) h = go (isSoftReset a byte) (isAccepted es a byte) (eqb a 0x3E) h
+  where
+    go : (r t s : Bool) → either r (both t (either s false)) ≡ false → byteLeft 0x3E (pick (both s t) (last byte) (pick (both r true) none (lastWrite es 0x3E))) ≡ byteLeft 0x3E (lastWrite es 0x3E)
+    go true t s e = cc
+    go false true true e = cc
+    go false true false e = refl
+    go false false true e = refl
+    go false false false e = refl
+control-kept es (read a n) h = refl
+control-kept es (sample x y z t) h = refl
+control-kept es cycle h = refl
+control-kept es (clock us) h = refl
+
+-- ---- frames
 -- the store has room for the depth
 pub deep : Deep room depth
 deep = record { some = omega arith; space = omega arith }
@@ -68,92 +83,84 @@ frame-long X x y z = omega arith
 frame-long Y x y z = omega arith
 frame-long Z x y z = omega arith
 
-first : Holds 0 empty device.powerUp
-unfolding modeOf device.powerUp
-first = record { regs = banked-first; same = rw empty-packed; fits = fits-empty deep (axesOf 0); mode = refl }
-
-module _ {c : ℕ} {q : Queue (List ℕ)} {d : Device} (h : Holds c q d) where
-  after-write : (a byte : ℕ) → Holds (pick (clears a byte) (controlBy a byte) c) (pick (clears a byte) empty q) (writeOf d a byte .device)
-  unfolding writeOf written
-  after-write a byte = go (clears a byte) refl (banked-written (h .regs) a byte)
-    where
-      go : (b : Bool) → clears a byte ≡ b → Banked (pick (clears a byte) (controlBy a byte) c) (writeOf d a byte .device .regs)
-          → Holds (pick (clears a byte) (controlBy a byte) c) (pick (clears a byte) empty q) (writeOf d a byte .device)
-      go true e w = rw e record {
-        regs = rw e at w;
-        same = rw (empties-is, e, empty-packed);
-        fits = fits-empty deep (axesOf (controlBy a byte));
-        mode = clears-mode a byte e;
-      }
-      go false e w = rw e record { regs = rw e at w; same = rw (empties-is, e) (h .same); fits = h .fits; mode = h .mode }
-
-  after-sample : (x y z : ℤ) (t : ℕ) → Holds c (pushed (settingOf depth (modeOf c) (axesOf c)) q (frame (axesOf c) x y z)) (afterAccepted x y z t d)
-  unfolding afterAccepted
-  after-sample x y z t =
-      let l = frame-long (axesOf c) x y z in
-      record {
-        regs = h .regs;
-        same = rw (h .regs .control, h .same) (pushed-packed (h .fits) (modeOf c) (frameOf (axesOf c) (codes x y z)) (l .0) ∙ rw frame-is);
-        fits = fits-pushed (h .fits) (modeOf c) (frame (axesOf c) x y z) (l .1);
-        mode = h .mode;
-      }
-
-  after-readout : (n : ℕ) → Holds c (without (framesReached (sizeOf (axesOf c)) n) q) (afterReadout d n)
-  after-readout n = record { regs = h .regs; same = rw (h .regs .control, h .same) (read-packed (h .fits) n); fits = fits-read (h .fits) n; mode = h .mode }
-
-  after-burst : (a n : ℕ) → Holds c q (afterSingles d a n)
-  after-burst a n = rw (after-is d a n) record { regs = h .regs; same = h .same; fits = h .fits; mode = h .mode }
-
--- ---- any events
--- what the FIFO holds with c at 0x3E, by what it was told
+-- ---- the FIFO
+-- what it holds with c at 0x3E, by what it was told
 unfoldable pub queueAt : ℕ → List (ledger.Event (List ℕ)) → Queue (List ℕ)
 queueAt c es = run (settingOf depth (modeOf c) (axesOf c)) es .queue
 
-abbrev pub HoldsAfter : List Event → Type 0
-HoldsAfter es = Holds (control es) (queueAt (control es) (since accelerometer es)) (after es)
+abbrev queueBy : List Event → Queue (List ℕ)
+queueBy es = queueAt (control es) (since accelerometer es)
 
-module _ (es : List Event) (h : HoldsAfter es) where
-  holds-write : (a byte : ℕ) → HoldsAfter (write a byte ∷ es)
-  unfolding control since saysHere after queueAt
-  holds-write a byte = go (clears a byte) refl (after-write h a byte)
+-- the store f is the one that holds what a history tells
+record Stores (es : List Event) (f : Flat) : Type 0 where
+  same : f ≡ packed room (queueBy es)
+  fits : Fits room depth (axesOf (control es)) (queueBy es)
+
+-- where it was told nothing since a clear, it is empty
+stores-none : (es : List Event) → since accelerometer es ≡ [] → Stores es emptied
+unfolding queueAt
+stores-none es h = record { same = rw (h, empty-packed); fits = rw h (fits-empty deep (axesOf (control es))) }
+
+module _ (es : List Event) {f : Flat} (h : Stores es f) where
+  stores-write : (a byte : ℕ) → Stores (write a byte ∷ es) (pick (clearsFifo es (write a byte)) emptied f)
+  unfolding since saysHere
+  stores-write a byte = go (clearsFifo es (write a byte)) refl
     where
-      go : (b : Bool) → clears a byte ≡ b
-          → Holds (pick (clears a byte) (controlBy a byte) (control es)) (pick (clears a byte) empty (queueAt (control es) (since accelerometer es))) (writeOf (after es) a byte .device)
-          → HoldsAfter (write a byte ∷ es)
-      go true e w = rw e (rw e at w)
-      go false e w = rw e (rw e at w)
+      go : (t : Bool) → clearsFifo es (write a byte) ≡ t → Stores (write a byte ∷ es) (pick t emptied f)
+      go true e = stores-none (write a byte ∷ es) (rw e)
+      go false e = record { same = rw (e, control-kept es (write a byte) e) (h .same); fits = rw (e, control-kept es (write a byte) e) (h .fits) }
 
-  holds-read : (a n : ℕ) → HoldsAfter (read a n ∷ es)
-  unfolding control since saysHere after queueAt readOf readsOut
-  holds-read a n = go (accepted (readAnswer a n)) refl (eqb a framesAt) refl
+  stores-read : (a n : ℕ) → Stores (read a n ∷ es) (pick (readsOut a n) (readoutAt depth (axesOf (control es)) n f) f)
+  unfolding byteBy since saysHere queueAt
+  stores-read a n = go (readsOut a n) refl
     where
-      go : (ok : Bool) → accepted (readAnswer a n) ≡ ok → (out : Bool) → eqb a framesAt ≡ out → HoldsAfter (read a n ∷ es)
-      go false e out l = rw e h
-      go true e true l = rw (e, l) (after-readout h n)
-      go true e false l = rw (e, l) (after-burst h a n)
+      go : (t : Bool) → readsOut a n ≡ t → Stores (read a n ∷ es) (pick t (readoutAt depth (axesOf (control es)) n f) f)
+      go true e = record { same = rw (e, h .same) (read-packed (h .fits) n); fits = rw e (fits-read (h .fits) n) }
+      go false e = record { same = rw e (h .same); fits = rw e (h .fits) }
 
-  holds-sample : (x y z : ℤ) (t : ℕ) → HoldsAfter (sample x y z t ∷ es)
-  unfolding control since saysHere after queueAt sampleOf
-  holds-sample x y z t = go (accepted (sampleAnswer x y z)) refl
+  stores-sample : (x y z : ℤ) (t : ℕ)
+      → let axes = axesOf (control es) in Stores (sample x y z t ∷ es) (pick (allInside x y z) (pushedAt depth (modeOf (control es)) axes (frameOf axes (codes x y z)) f) f)
+  unfolding byteBy since saysHere queueAt
+  stores-sample x y z t = go (allInside x y z) refl
     where
-      go : (ok : Bool) → accepted (sampleAnswer x y z) ≡ ok → HoldsAfter (sample x y z t ∷ es)
-      go true e = rw e (after-sample h x y z t)
-      go false e = rw e h
+      c : ℕ
+      c = control es
 
-  holds-cycle : HoldsAfter (cycle ∷ es)
-  unfolding control since saysHere after cycleOf
-  holds-cycle = record { regs = h .regs; same = h .same; fits = h .fits; mode = h .mode }
+      go : (s : Bool) → allInside x y z ≡ s
+          → Stores (sample x y z t ∷ es) (pick s (pushedAt depth (modeOf (control es)) (axesOf (control es)) (frameOf (axesOf (control es)) (codes x y z)) f) f)
+      go true e =
+          let l = frame-long (axesOf c) x y z in
+          record {
+            same = rw (e, h .same) (pushed-packed (h .fits) (modeOf c) (frameOf (axesOf c) (codes x y z)) (l .0) ∙ rw frame-is);
+            fits = rw e (fits-pushed (h .fits) (modeOf c) (frame (axesOf c) x y z) (l .1));
+          }
+      go false e = record { same = rw e (h .same); fits = rw e (h .fits) }
 
-  holds-clock : (us : ℕ) → HoldsAfter (clock us ∷ es)
-  unfolding control since saysHere after clockOf
-  holds-clock us = record { regs = h .regs; same = h .same; fits = h .fits; mode = h .mode }
+  stores-other : Stores (cycle ∷ es) f × ((us : ℕ) → Stores (clock us ∷ es) f)
+  unfolding byteBy since saysHere queueAt
+  stores-other = (record { same = h .same; fits = h .fits }, λ us. record { same = h .same; fits = h .fits })
 
-pub holds-after : (es : List Event) → HoldsAfter es
-unfolding control since saysHere after queueAt
-holds-after [] = first
-holds-after (powerUp ∷ es) = first
-holds-after (write a byte ∷ es) = holds-write es (holds-after es) a byte
-holds-after (read a n ∷ es) = holds-read es (holds-after es) a n
-holds-after (sample x y z t ∷ es) = holds-sample es (holds-after es) x y z t
-holds-after (cycle ∷ es) = holds-cycle es (holds-after es)
-holds-after (clock us ∷ es) = holds-clock es (holds-after es) us
+stores-next : (es : List Event) (e : Event) {f : Flat} → Stores es f → Stores (e ∷ es) (flatNext (after es .regs) e f)
+unfolding since saysHere
+stores-next es powerUp h = stores-none (powerUp ∷ es) refl
+stores-next es (write a byte) h = rw (clears-is es a byte) (stores-write es h a byte)
+stores-next es (read a n) h = rw (readout-is a n, control-is es) (stores-read es h a n)
+stores-next es (sample x y z t) h = rw (sample-is x y z, control-is es) (stores-sample es h x y z t)
+stores-next es cycle h = stores-other es h .0
+stores-next es (clock us) h = stores-other es h .1 us
+
+stores-after : (es : List Event) → Stores es (flatOf (after es))
+unfolding after since device.powerUp
+stores-after [] = stores-none [] refl
+stores-after (e ∷ es) = rw (flat-next (after es) e) (stores-next es e (stores-after es))
+
+-- ---- the device d has c at 0x3E and holds the queue q
+pub record Holds (c : ℕ) (q : Queue (List ℕ)) (d : Device) : Type 0 where
+  pub control : getD (d .regs) controlAt 0 ≡ c
+  pub same : flatOf d ≡ packed room q
+  pub fits : Fits room depth (axesOf c) q
+  -- the mode is one of 01's three
+  pub mode : isReservedMode (modeOf c) ≡ false
+
+pub holds-after : (es : List Event) → Holds (control es) (queueAt (control es) (since accelerometer es)) (after es)
+holds-after es = record { control = control-is es; same = stores-after es .same; fits = stores-after es .fits; mode = mode-known es }

@@ -1,4 +1,3 @@
-pub mod Writes
 pub mod Holds
 pub mod Conserve
 pub mod Runs

@@ -11,7 +11,8 @@ use Rattle.events.specs.Run.{after}
 use Rattle.demand3.specs.Chip.{since}
 use Rattle.demand3.specs.Counts.{begun, heldAfter}
 use Rattle.demand3.specs.Demand.{fates, dueStatus, gave}
-use Rattle.history.specs.History.{readsOut, control, frame, saysHere, accelerometer, twin}
+use Rattle.paper.specs.Computed.{thePaper}
+use Rattle.history.specs.History.{frame, saysHere, accelerometer, twin}
 use Rattle.demand3.specs.Whole.{Totals, totals}
 
 -- n samples after es, numbered by x from 0
@@ -56,7 +57,7 @@ pub runs : Ran fifoRun 0x9F (lastFrame ∷ []) (firstFrame ∷ []) (counts 33 1 
     × Ran bypassRun 0x81 (firstFrame ∷ []) [] (counts 2 0 1 0)
     × Ran (write 0x3E 0xC0 ∷ bypassRun) 0x81 (firstFrame ∷ []) [] (counts 2 0 1 0)
     × Ran (write 0x14 0xB6 ∷ bypassRun) 0x00 [] [] (counts 2 0 1 1)
-unfolding theDevice samples dueStatus fates gave totals begun heldAfter twin since saysHere control readsOut frame after
+unfolding theDevice thePaper samples dueStatus fates gave totals begun heldAfter twin since saysHere frame after
 runs = (
   record { told = refl; lost = refl; shown = refl; came = refl; tallied = refl },
   record { told = refl; lost = refl; shown = refl; came = refl; tallied = refl },

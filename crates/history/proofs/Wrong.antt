@@ -7,12 +7,11 @@ use native.Mathlib.Omega.{arith}
 use lib.IntN.{pos}
 use Rattle.codes.specs.Axes.{axesOf}
 use Rattle.codes.specs.Mode.{modeOf}
-use Rattle.device.specs.Sample.{sampleAnswer}
-use Rattle.registers.specs.Deeds.{clears}
 use Rattle.events.specs.Event.{Event, write, sample}
 use Rattle.demand3.specs.Chip.{readOut, Chip, Twin, since}
 use Rattle.demand3.specs.Demand.{fates, dueStatus, Demand3}
-use Rattle.history.specs.History.{control, saysHere, accelerometer, twin}
+use Rattle.paper.specs.Computed.{thePaper}
+use Rattle.history.specs.History.{saysHere, accelerometer, twin}
 use Rattle.history.proofs.Conserve.{demand3}
 
 -- two twins of a chip that meet it after the events show the same at 0x0E, and give the same at 0x3F
@@ -35,7 +34,7 @@ abbrev second : List Event
 second = sample (pos 0) (pos 0) (pos 0) 0 ∷ begun
 
 bytes : (dueStatus accelerometer begun ≡ 0x00) × (dueStatus accelerometer second ≡ 0x01)
-unfolding dueStatus fates since saysHere control clears modeOf axesOf sampleAnswer
+unfolding dueStatus fates since saysHere thePaper modeOf axesOf
 bytes = (refl, refl)
 
 apart : {t u : List ℕ} → t ≡ dueStatus accelerometer begun ∷ [] → u ≡ dueStatus accelerometer second ∷ [] → t ≡ u → ⊥

@@ -1,18 +1,14 @@
--- The accelerometer: what its events from power-up alone say of the FIFO. What is accepted is what 01's tables accept; only `twin` looks
--- at a device. In a history the latest event stands first.
+-- The accelerometer: what its events from power-up alone say of the FIFO, in the words of the crate paper; only `twin` looks at a device. In a history the latest event stands first.
 use Prim.Native.Nat.{ℕ, _≤_}
-use mathlib.Core.Bool.{Bool, true}
+use mathlib.Core.Bool.{true}
 use mathlib.Core.List.{List, [], _∷_, _++_}
 use mathlib.Core.Logic.{_↔_}
 use mathlib.Core.Option.{some}
 use mathlib.Core.Path.{_≡_}
-use lib.Bits.{bitAnd}
-use lib.Dec.{eqb}
 use lib.IntN.{ℤ}
 use lib.ListN.{length, getElem?}
 use Rattle.laws.specs.Bytes.{zeros}
-use Rattle.laws.specs.Choice.{pick, both}
-use Rattle.codes.specs.Addresses.{controlAt, framesAt}
+use Rattle.laws.specs.Choice.{pick}
 use Rattle.codes.specs.Axes.{axesOf}
 use Rattle.codes.specs.Mode.{modeOf}
 use Rattle.codes.specs.declared.Axes.{Axes}
@@ -24,36 +20,22 @@ use Rattle.fifo.specs.Ledger.{heldOf}
 use Rattle.fifo.specs.Setting.{settingOf}
 use Rattle.fifo.specs.declared.Setting.{Setting}
 use Rattle.channels.specs.Codes.{code, lsbOf, msbOf}
-use Rattle.registers.specs.Answers.{accepted}
-use Rattle.registers.specs.Deeds.{clears}
-use Rattle.registers.specs.Refused.{readAnswer}
 use Rattle.device.specs.Device.{depth}
 use Rattle.device.specs.Read.{bufferAfter}
-use Rattle.device.specs.Sample.{sampleAnswer}
-use Rattle.events.specs.Event.{Event, powerUp, write, read, sample, cycle, clock}
+use Rattle.events.specs.Event.{Event}
 use Rattle.events.specs.Run.{after}
+use Rattle.events.specs.Views.{atRead}
+use Rattle.paper.specs.Stored.{byteBy}
+use Rattle.paper.specs.Samples.{Values, isSample, valuesAt}
+use Rattle.paper.specs.Readouts.{readsOut, clearsFifo}
 use Rattle.demand3.specs.Chip.{Said, cleared, sampled, readOut, nothing, Chip, Twin, since}
 use Rattle.demand3.specs.Counts.{arrivals, heldAfter}
 use Rattle.demand3.specs.Demand.{fates, Demand3}
 use Rattle.demand3.specs.Lost.{Saw}
 
--- an accepted read at 0x3F, of an address and a length
-unfoldable pub readsOut : ℕ → ℕ → Bool
-readsOut a n = both (accepted (readAnswer a n)) (eqb a framesAt)
-
--- "3E:00/C3": the byte of 0x3E after a write of a byte to an address that clears the FIFO
-abbrev pub controlBy : ℕ → ℕ → ℕ
-controlBy a byte = pick (eqb a controlAt) (bitAnd byte 0xC3) 0x00
-
--- the byte of 0x3E, by the last clear: "Every accepted write to 0x3E .. empties the FIFO ..; so does soft reset"
-unfoldable pub control : List Event → ℕ
-control [] = 0x00
-control (powerUp ∷ es) = 0x00
-control (write a byte ∷ es) = pick (clears a byte) (controlBy a byte) (control es)
-control (read a n ∷ es) = control es
-control (sample x y z t ∷ es) = control es
-control (cycle ∷ es) = control es
-control (clock us ∷ es) = control es
+-- "3E: bits 7:6 are 00 BYPASS, 01 FIFO, 10 STREAM", and the axes: its byte
+abbrev pub control : List Event → ℕ
+control es = byteBy es 0x3E
 
 -- how deep the FIFO is, what it drops and how long its frames are
 abbrev pub setting : List Event → Setting
@@ -70,14 +52,16 @@ frame X x y z = axis x
 frame Y x y z = axis y
 frame Z x y z = axis z
 
+-- that of what is stored of a sample behind a history
+abbrev pub frameAt : List Event → Values → List ℕ
+frameAt es v = frame (axesOf (control es)) (v .x) (v .y) (v .z)
+
 -- what an event says to the FIFO: "cleared (by power-up, soft reset or an accepted write to 0x3E)", an accepted sample, or a readout
 unfoldable pub saysHere : List Event → Event → Said
-saysHere es powerUp = cleared
-saysHere es (write a byte) = pick (clears a byte) cleared nothing
-saysHere es (read a n) = pick (readsOut a n) (readOut n) nothing
-saysHere es (sample x y z t) = pick (accepted (sampleAnswer x y z)) (sampled (frame (axesOf (control es)) x y z)) nothing
-saysHere es cycle = nothing
-saysHere es (clock us) = nothing
+saysHere es e =
+    pick (clearsFifo es e) cleared
+    (pick (isSample e) (sampled (frameAt es (valuesAt es e)))
+    (atRead nothing (λ a n. pick (readsOut a n) (readOut n) nothing) e))
 
 abbrev pub accelerometer : Chip
 accelerometer = record { Event = Event; says = saysHere; setting = setting }

@@ -21,7 +21,7 @@ use Rattle.events.specs.Event.{Event, write, read, sample, cycle, clock}
 use Rattle.events.specs.Event as event
 use Rattle.events.specs.Bank.{bank, stored}
 use Rattle.events.proofs.Runs.{bank-length}
-use Rattle.paper.specs.Table.{resetOf}
+use Rattle.paper.specs.Table.{resetOf, masked}
 use Rattle.paper.specs.Refused.{isReservedWrite, accepts}
 use Rattle.paper.specs.Stored.{isSoftReset, isSpared, none, last, lastWrite, byteLeft, byteBy, isAccepted}
 use Rattle.paper.proofs.Table.{reset-is, masked-is, masked-none}
@@ -105,3 +105,23 @@ stored-is (clock us ∷ es) a h = stored-is es a h
 -- a write is accepted after the events where the registers accept it
 pub accepted-is : (es : List Event) (a byte : ℕ) → accepted (writeAnswer (bank es) a byte) ≡ isAccepted es a byte
 accepted-is es = accepted-after es (stored-is es)
+
+-- what holds of the reset byte, and of what each accepted write to an address leaves there, holds of the byte that it stores
+module _ (P : ℕ → Type 0) (a : ℕ) (first : P (resetOf a)) (left-by : (es : List Event) (byte : ℕ) → isAccepted es a byte ≡ true → P (masked a byte)) where
+  pub always-stored : (es : List Event) → P (byteBy es a)
+  unfolding byteBy
+  always-stored [] = first
+  always-stored (event.powerUp ∷ es) = first
+  always-stored (write c byte ∷ es) = go (eqb c a) refl (isAccepted es c byte) refl (both (isSoftReset c byte) (not (isSpared a))) (always-stored es)
+    where
+      go : (s : Bool) → eqb c a ≡ s → (t : Bool) → isAccepted es c byte ≡ t → (u : Bool) → P (byteLeft a (lastWrite es a))
+          → P (byteLeft a (pick (both s t) (last byte) (pick u none (lastWrite es a))))
+      go true e true f u p = left-by es byte (rw (← eqb-true c a e) f)
+      go true e false f true p = first
+      go true e false f false p = p
+      go false e t f true p = first
+      go false e t f false p = p
+  always-stored (read c n ∷ es) = always-stored es
+  always-stored (sample x y z t ∷ es) = always-stored es
+  always-stored (cycle ∷ es) = always-stored es
+  always-stored (clock us ∷ es) = always-stored es

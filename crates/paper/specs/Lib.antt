@@ -4,3 +4,4 @@ pub mod Stored
 pub mod Samples
 pub mod Readouts
 pub mod Back
+pub mod Computed
