@@ -7,7 +7,7 @@ use mathlib.Core.Path.{_≡_, sym, ap, subst, _∙_}
 use native.Mathlib.Omega.{arith}
 use lib.Dec.{eqb, ltb}
 use lib.ListN.{getD}
-use borrow.Author.Tests.{le-ltb, ne-eqb}
+use borrow.Author.Tests.{le-ltb, le-leb, ne-eqb}
 use Rattle.laws.specs.Bits.{bit}
 use Rattle.laws.specs.Keys.{_means_}
 use Rattle.laws.specs.Bytes.{firstOrZeros}
@@ -22,9 +22,10 @@ use Rattle.device.specs.Read.{byteFrom, readOf, burstBytes, bufferAfter}
 use Rattle.device.specs.Show.{shownByte, pinsOf}
 use Rattle.events.specs.Event.{Event, read, Given, bytes, gives}
 use Rattle.events.specs.Run.{after}
+use Rattle.paper.specs.Readouts.{readsOut}
 use Rattle.demand3.specs.Chip.{readOut}
 use Rattle.demand3.specs.Demand.{fates}
-use Rattle.history.specs.History.{accelerometer, readsOut, saysHere, twin}
+use Rattle.history.specs.History.{accelerometer, saysHere, twin}
 use Rattle.history.proofs.Conserve.{demand3, device-holds}
 use Rattle.anymotion.specs.Marks.{marksByte}
 use Rattle.anymotion.proofs.Detector.{detector-is}
@@ -66,7 +67,7 @@ module _ (es : List Event) (n : ℕ) (some : 1 ≤ n) (few : n ≤ 192) where
 
   pub out : readsOut 0x3F n ≡ true
   unfolding readsOut
-  out = rw ok
+  out = rw (le-leb 1 n some, le-leb n 192 few)
 
   said : saysHere es (read 0x3F n) ≡ readOut n
   unfolding saysHere

@@ -12,28 +12,22 @@ use Rattle.laws.specs.Bits.{bit, worth}
 use Rattle.laws.specs.Choice.{pick, both}
 use Rattle.laws.specs.Lists.{isIn}
 use Rattle.laws.proofs.Finite.{left, right, picked}
-use Rattle.codes.specs.Addresses.{controlAt}
 use Rattle.codes.specs.Axes.{axesOf}
 use Rattle.fifo.specs.Ledger as fifo
 use Rattle.fifo.specs.declared.Setting.{Setting}
-use Rattle.registers.specs.Answers.{accepted}
-use Rattle.registers.specs.Deeds.{clears}
-use Rattle.device.specs.Sample.{sampleAnswer}
 use Rattle.events.specs.Event.{Event, powerUp, write, read, sample, cycle, clock}
 use Rattle.demand3.specs.Chip.{Said, sampled, readOut, nothing, onto, since}
 use Rattle.demand3.specs.Counts.{begun, heldAfter}
-use Rattle.history.specs.History.{accelerometer, readsOut, control, setting, frame, saysHere}
+use Rattle.history.specs.History.{accelerometer, control, setting, frame, saysHere}
 use Rattle.demand3.proofs.Chip.{isCleared}
 use Rattle.history.proofs.Conserve.{demand3, lawful, over-clears-here}
 use Rattle.history.proofs.Holds.{holds-after}
 use Rattle.demand3.proofs.Whole.{next-held}
 use Rattle.rules.specs.Rules.{depthBy, watermarkStatus}
-use Rattle.paper.specs.Stored.{byteBy}
+use Rattle.paper.specs.Stored.{byteBy, isAccepted}
+use Rattle.paper.specs.Readouts.{readsOut, clearsFifo}
 use Rattle.paper.specs.Samples.{isSample}
-use Rattle.paper.proofs.Samples.{sample-is}
 use Rattle.rules.proofs.Reading.{depth-is, interrupts-seen}
-use Rattle.rules.proofs.Registers.{registers}
-use Rattle.paper.proofs.Stored.{stored-is}
 use Rattle.demand2.specs.Demand2.{elsewhere}
 use Rattle.demand2.specs.Watermark.{watermarkBit, level, frameCount, frameSize, Reaches, setUpAt, goesOn, goOn, arrived, framesAskedBy, framesAsked, Watermark}
 use Rattle.demand2.proofs.Demand2.{elsewhere-is, out}
@@ -64,11 +58,8 @@ module _ (es : List Event) where
   reached-here = rw seen-is (tests (bit 6 (byteBy es 0x17)) (level es) 32 (frameCount es))
 
   -- "Depth is 32 in FIFO and STREAM, 1 in BYPASS"; "The held frames never exceed the depth"
-  control-is : control es ≡ byteBy es 0x3E
-  control-is = sym (holds-after es .regs .control) ∙ registers es controlAt ∙ stored-is es controlAt (omega arith)
-
   deep : setting es .depth ≡ depthBy es
-  deep = depth-is (control es) (holds-after es .mode) ∙ rw control-is
+  deep = depth-is (control es) (holds-after es .mode)
 
   few : frameCount es ≤ depthBy es
   few = omega (arith, demand3 es .demand .few, deep)
@@ -81,9 +72,12 @@ not-written a on c m = go (eqb a c) refl
     go true e = let z : false ≡ true = rw (eqb-true a c e, m) at on in cc
     go false e = refl
 
-clears-not : (a byte : ℕ) → not (isIn setUpAt a) ≡ true → clears a byte ≡ false
-unfolding clears
-clears-not a byte on = rw (not-written a on 0x14 refl, not-written a on 0x3E refl)
+clears-not : (es : List Event) (a byte : ℕ) → not (isIn setUpAt a) ≡ true → clearsFifo es (write a byte) ≡ false
+clears-not es a byte on = rw (not-written a on 0x14 refl, not-written a on 0x3E refl) (go (isAccepted es a byte))
+  where
+    go : (t : Bool) → both t false ≡ false
+    go true = refl
+    go false = refl
 
 none-less : (n : ℕ) → n ≡ n - 0
 none-less n = omega arith
@@ -101,9 +95,9 @@ module _ (es : List Event) where
   goes-on : (e : Event) → goesOn e ≡ true → isCleared (saysHere es e) ≡ false
   unfolding saysHere
   goes-on powerUp on = cc
-  goes-on (write a byte) on = rw (clears-not a byte on)
+  goes-on (write a byte) on = rw (clears-not es a byte on)
   goes-on (read a n) on = picked (λ (w : Said). isCleared w ≡ false) (readsOut a n) refl refl
-  goes-on (sample x y z t) on = picked (λ (w : Said). isCleared w ≡ false) (accepted (sampleAnswer x y z)) refl refl
+  goes-on (sample x y z t) on = picked (λ (w : Said). isCleared w ≡ false) (isSample (sample x y z t)) refl refl
   goes-on cycle on = refl
   goes-on (clock us) on = refl
 
@@ -112,13 +106,13 @@ module _ (es : List Event) where
       → heldAfter s (onto (saysHere es e) es') ≡ pick (isSample e) (min (s .depth) (suc (heldAfter s es'))) (heldAfter s es' - framesAskedBy (s .size) e)
   unfolding saysHere heldAfter
   held-said powerUp on s es' = cc
-  held-said (write a byte) on s es' = rw (clears-not a byte on) (none-less (heldAfter s es'))
+  held-said (write a byte) on s es' = rw (clears-not es a byte on) (none-less (heldAfter s es'))
   held-said (read a n) on s es' = go (readsOut a n)
     where
       go : (t : Bool) → heldAfter s (onto (pick t (readOut n) nothing) es') ≡ heldAfter s es' - pick t (begun (s .size) n) 0
       go true = refl
       go false = none-less (heldAfter s es')
-  held-said (sample x y z t) on s es' = rw (sample-is x y z) (go (isSample (sample x y z t)))
+  held-said (sample x y z t) on s es' = go (isSample (sample x y z t))
     where
       go : (t : Bool) → heldAfter s (onto (pick t (sampled (frame (axesOf (control es)) x y z)) nothing) es') ≡ pick t (min (s .depth) (suc (heldAfter s es'))) (heldAfter s es' - 0)
       go true = refl

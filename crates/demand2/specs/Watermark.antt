@@ -15,11 +15,12 @@ use Rattle.events.specs.Event.{Event, read}
 use Rattle.events.specs.Views.{isPowerUp, atWrite, atRead}
 use Rattle.demand3.specs.Counts.{begun}
 use Rattle.demand3.specs.Demand.{fates}
-use Rattle.history.specs.History.{accelerometer, readsOut, setting}
+use Rattle.history.specs.History.{accelerometer, setting}
 use Rattle.rules.specs.Shown.{bitSeen}
 use Rattle.rules.specs.Rules.{depthBy}
 use Rattle.paper.specs.Stored.{byteBy}
 use Rattle.paper.specs.Samples.{isSample}
+use Rattle.paper.specs.Readouts.{readsOut}
 
 -- ---- after a history
 -- what a recorder sees: "watermark (0x0A bit 6)"

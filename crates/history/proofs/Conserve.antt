@@ -102,7 +102,7 @@ one-size es e f = go (clearsFifo es e) (isSample e)
     go : (t s : Bool) → pick t cleared (pick s (sampled (frameAt es v)) (atRead nothing (λ a n. pick (readsOut a n) (readOut n) nothing) e)) ≡ sampled f → length f ≡ setting es .size
     go true s q = cc
     go false true q = let k : f ≡ frameAt es v = cc in rw k (frame-long (axesOf (control es)) (v .x) (v .y) (v .z) .1)
-    go false false q = cc (readout-said e, ap isFrame q)
+    go false false q = cc (readout-said e)
 
 pub lawful : Lawful accelerometer
 lawful = record {

@@ -43,7 +43,7 @@ module _ (w : Watch) (l : Lawful w) where
         go (anew r s) = let z : true ≡ false = sym r ∙ same in let y : _≡_ {A = ℕ} 0 1 = cc in absurd (omega arith)
         go (rest us is r x s) = let k = expiry-when w l es e x in absurd (omega (arith, k .2))
         go (more us is r x s) = let m = ap microsecondsAt is in rw (s, kept w l es e r, m) (set, refl)
-        go (one p n r f s) = 
+        go (one p n r f s) =
             rw (s, kept w l es e r, set, n)
             (at (w .sets (goingBy w es .own) (point p ∷ seen w es)) (goingBy w es .nonLatched) (w .clears (goingBy w es .own) (point p ∷ seen w es)) (timed-not es timed))
         go (none c n r f s) = rw (s, kept w l es e r, n) (set, omega arith)

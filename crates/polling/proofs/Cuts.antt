@@ -25,6 +25,7 @@ use Rattle.device.specs.Read.{afterSingles, singleBytes, readOf}
 use Rattle.device.specs.declared.Device.{Device}
 use Rattle.events.specs.Event.{Event, read, gives}
 use Rattle.events.specs.Run.{next, after}
+use Rattle.paper.specs.Stored.{byteBy}
 use Rattle.history.specs.History.{control, setting}
 use Rattle.history.proofs.Holds as history
 use Rattle.polling.specs.Cuts.{lengthOfAll, Nonempty, AreFrames, AtFrames, readoutPieces, burstPieces, SameAs, Cuts}
@@ -81,7 +82,7 @@ module _ (es : List Event) (m : ℕ) (one : 1 ≤ m) (whole : AreFrames (setting
       let d = after es in
       let a = axesOf (reg d controlAt) in
       let c : readIn room depth a n (readIn room depth a m (flatOf d)) ≡ readIn room depth a (m + n) (flatOf d) =
-      rw (h .regs .control, h .same, frames-in (axesOf (control es)) m whole) (read-cut (h .fits) (m / sizeOf (axesOf (control es))) n) in
+      rw (h .control, h .same, frames-in (axesOf (control es)) m whole) (read-cut (h .fits) (m / sizeOf (axesOf (control es))) n) in
       rw (readout-done m one (omega arith), readout-done n more (omega arith), readout-done (m + n) (omega arith) few) (ap (λ (f : Flat). withFlat d f) c)
 
   two-bytes : gives (after es) (read 0x3F m) .bytes ++ gives (next (after es) (read 0x3F m)) (read 0x3F n) .bytes ≡ gives (after es) (read 0x3F (m + n)) .bytes
@@ -91,7 +92,7 @@ module _ (es : List Event) (m : ℕ) (one : 1 ≤ m) (whole : AreFrames (setting
       let d = after es in
       let a = axesOf (reg d controlAt) in
       let c : bytesIn room depth a m (flatOf d) ++ bytesIn room depth a n (readIn room depth a m (flatOf d)) ≡ bytesIn room depth a (m + n) (flatOf d) =
-      rw (h .regs .control, h .same, frames-in (axesOf (control es)) m whole) (bytes-cut (h .fits) (m / sizeOf (axesOf (control es))) n) in
+      rw (h .control, h .same, frames-in (axesOf (control es)) m whole) (bytes-cut (h .fits) (m / sizeOf (axesOf (control es))) n) in
       rw (readout-done m one (omega arith), readout-done n more (omega arith), readout-done (m + n) (omega arith) few) c
 
 readout-0 : (d : Device) (n : ℕ) → 1 ≤ n → n ≤ 192 → gives d (read 0x3F n) .number ≡ 0
@@ -100,7 +101,7 @@ readout-0 d n h l = rw (readout-done n h l)
 
 frames-cut : (es : List Event) (ns : List ℕ) → Nonempty ns → AtFrames (setting es .size) ns → lengthOfAll ns ≤ 192
     → SameAs (after es) (readoutPieces ns) (read 0x3F (lengthOfAll ns))
-unfolding after control
+unfolding after byteBy
 frames-cut es [] h w l = absurd h
 frames-cut es (n ∷ []) h w l = rw add-zero (alone (after es) (read 0x3F n) (readout-0 (after es) n h (omega arith)))
 frames-cut es (n ∷ m ∷ ns) h w l =

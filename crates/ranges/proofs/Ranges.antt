@@ -6,7 +6,7 @@ use mathlib.Core.List.{List, _∷_}
 use mathlib.Core.Logic.{_↔_, _≢_}
 use mathlib.Core.Path.{_≡_, refl, sym, ap, _∙_, subst}
 use native.Mathlib.Omega.{arith}
-use lib.Bits.{bitAnd, and-zero-r, or-zero-r, and-mask}
+use lib.Bits.{and-zero-r}
 use lib.Dec.{eqb}
 use borrow.Author.Tests.{eqb-true, eqb-false}
 use Rattle.laws.specs.Choice.{pick}
@@ -26,7 +26,7 @@ use Rattle.events.specs.Event.{Event, write, gives}
 use Rattle.events.specs.Run.{after}
 use Rattle.paper.specs.Table.{masked}
 use Rattle.paper.specs.Stored.{byteBy, isAccepted}
-use Rattle.paper.proofs.Table.{masked-is}
+use Rattle.paper.proofs.Codes.{range-stored}
 use Rattle.paper.proofs.Stored.{stored-is, accepted-is}
 use Rattle.rules.proofs.Registers as registers
 use Rattle.ranges.specs.Ranges.{IsOther, MeansG, RangeRule}
@@ -131,13 +131,6 @@ range-refused es byte =
     (λ h. none .0 (when .0 (sym is ∙ h)), λ h. is ∙ when .1 (none .1 h))
 
 -- ---- a write of one of the four
--- "0F:03/0F": the low nibble is stored
-nibble-kept : (byte : ℕ) → masked 0x0F byte % 16 ≡ byte % 16
-unfolding theTable
-nibble-kept byte =
-    let is : masked 0x0F byte ≡ byte % 16 = sym (masked-is 0x0F byte (omega arith) refl) ∙ or-zero-r (bitAnd byte 0x0F) ∙ and-mask byte 4 in
-    omega arith
-
 done-when : (r : Range) → inG r ≢ 0 → accepted (pick (isReservedRange r) ReservedCode Done) ≡ true
 done-when G2 k = refl
 done-when G4 k = refl
@@ -153,7 +146,8 @@ pub range-written : (es : List Event) (byte : ℕ) → ¬ IsOther (byte % 16) �
 unfolding byteBy
 range-written es byte one =
     let left : byteBy (write 0x0F byte ∷ es) 0x0F ≡ masked 0x0F byte = rw (range-accepted es byte one) in
-    subst (λ code. MeansG code (inG (rangeIn (after (write 0x0F byte ∷ es))))) (ap (λ n. n % 16) left ∙ nibble-kept byte) (range-in-force (write 0x0F byte ∷ es))
+    let is : byteBy (write 0x0F byte ∷ es) 0x0F % 16 ≡ byte % 16 = omega (arith, left, range-stored byte) in
+    subst (λ code. MeansG code (inG (rangeIn (after (write 0x0F byte ∷ es))))) is (range-in-force (write 0x0F byte ∷ es))
 
 pub range-rule : (es : List Event) → RangeRule es
 range-rule es = record {

@@ -9,7 +9,7 @@ use lib.Dec.{eqb}
 use lib.ListN.{length, getD}
 use borrow.Author.Tests.{eqb-true}
 use Rattle.laws.specs.Choice.{pick, both, either}
-use Rattle.laws.proofs.Finite.{picked, alike, left, right}
+use Rattle.laws.proofs.Finite.{picked, alike, left}
 use Rattle.codes.specs.Addresses.{controlAt}
 use Rattle.codes.specs.Mode.{modeOf, isReservedMode}
 use Rattle.codes.specs.Axes.{axesOf}

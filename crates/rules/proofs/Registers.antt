@@ -33,7 +33,9 @@ use Rattle.events.specs.Bank.{bank, stored}
 use Rattle.events.proofs.Runs.{bank-is, bank-length}
 use Rattle.rules.specs.Rules.{isTabled}
 use Rattle.paper.proofs.Bits.{bit-merged, bit-clear}
-use Rattle.rules.proofs.Codes.{accepted-clear, first-clear, range-stored, mode-stored}
+use Rattle.paper.proofs.Stored.{stored-is}
+use Rattle.paper.proofs.Codes as codes
+use Rattle.rules.proofs.Codes.{accepted-clear, first-clear}
 use Rattle.paper.proofs.Writes.{isStored, spared, byteWritten, byte-written, reset-byte}
 use Rattle.rules.proofs.Proper.{proper}
 use Rattle.rules.proofs.Bursts.{single}
@@ -62,11 +64,6 @@ reads-constant v l c es a m = go (ltb a 0x3F) refl (isTabled a) refl (writable a
     go true eh true et true ew e = cc
     go true eh false et w ew e = cc
     go false eh t et w ew e = cc
-
--- two registers that can be written
-settable : (a : ℕ) → isIn (rangeAt ∷ controlAt ∷ []) a ≡ true → writable a ≡ true
-unfolding theTable
-settable = each writable (rangeAt ∷ controlAt ∷ []) refl
 
 module _ (es : List Event) where
   -- "00 (0xFA)"
@@ -123,11 +120,11 @@ module _ (es : List Event) where
 
   -- "every other low nibble is refused 2"
   pub range-known : isReservedRange (rangeOf (stored es rangeAt)) ≡ false
-  range-known = let v = proper es .written rangeAt (omega arith) (settable rangeAt refl) in rw (← bank-is es, v .is) (range-stored (v .regs) (v .byte) (v .ok))
+  range-known = rw (stored-is es rangeAt (omega arith)) (codes.range-known es)
 
   -- "11 is refused 2"
   pub mode-known : isReservedMode (modeOf (stored es controlAt)) ≡ false
-  mode-known = let v = proper es .written controlAt (omega arith) (settable controlAt refl) in rw (← bank-is es, v .is) (mode-stored (v .regs) (v .byte) (v .ok))
+  mode-known = rw (stored-is es controlAt (omega arith)) (codes.mode-known es)
 
 -- ---- one write more
 -- an address that can be written is of the table, and not 0x14

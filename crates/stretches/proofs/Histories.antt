@@ -22,15 +22,15 @@ use Rattle.fifo.specs.Ledger.{heldOf}
 use Rattle.fifo.specs.Store.{countIn}
 use Rattle.fifo.specs.declared.Setting.{Setting}
 use Rattle.registers.specs.Answers.{accepted}
-use Rattle.registers.specs.Deeds.{judgement, clears}
-use Rattle.paper.specs.Stored.{isSoftReset}
+use Rattle.registers.specs.Deeds.{judgement}
+use Rattle.paper.specs.Stored.{isSoftReset, byteBy}
 use Rattle.registers.specs.Refused.{readAnswer, writeAnswer}
 use Rattle.registers.specs.declared.Answer.{Answer}
 use Rattle.registers.proofs.Verdicts.{range-accepted, control-accepted}
 use Rattle.device.specs.Clock.{clockOf}
 use Rattle.device.specs.Device.{firstBytes}
 use Rattle.device.specs.Read.{readOf}
-use Rattle.device.specs.Sample.{sampleAnswer, sampleOf}
+use Rattle.device.specs.Sample.{sampleOf}
 use Rattle.device.specs.Show.{heldIn, rangeIn, modeIn}
 use Rattle.device.specs.Write.{writeOf}
 use Rattle.events.specs.Bank.{stored, bank}
@@ -41,7 +41,12 @@ use Rattle.events.proofs.Runs.{bank-is}
 use Rattle.demand3.specs.Chip.{Said, cleared, sampled, readOut, nothing, since}
 use Rattle.demand3.specs.Counts.{begun, heldAfter}
 use Rattle.demand3.specs.Demand.{fates}
-use Rattle.history.specs.History.{accelerometer, readsOut, control, frame, setting, saysHere}
+use Rattle.paper.specs.Computed.{thePaper}
+use Rattle.paper.specs.Samples.{allInside}
+use Rattle.paper.specs.Readouts.{readsOut, clearsFifo}
+use Rattle.paper.proofs.Samples.{sample-is}
+use Rattle.paper.proofs.Readouts.{readout-is}
+use Rattle.history.specs.History.{accelerometer, control, frame, setting, saysHere}
 use Rattle.demand3.specs.Whole.{Totals, totalled, heldNow, totals}
 use Rattle.history.proofs.Conserve.{demand3, over-clears-here, device-holds, lawful}
 use Rattle.history.proofs.Holds.{holds-after}
@@ -71,7 +76,7 @@ range-is es = ap (λ (regs : List ℕ). rangeOf (getD regs rangeAt 0)) (bank-is 
 
 -- its mode is by the byte of 0x3E since the last clear
 pub mode-is : (es : List Event) → modeIn (after es) ≡ modeOf (control es)
-mode-is es = ap modeOf (holds-after es .regs .control)
+mode-is es = ap modeOf (holds-after es .control)
 
 -- ---- why a stretch ends
 -- a write to 0x0F is refused exactly where its code is reserved, whatever the registers hold
@@ -90,8 +95,8 @@ range-why regs a byte = go (eqb a rangeAt) refl
     go false e = refl
 
 read-why : (a n : ℕ) → whyOfRead a (readAnswer a n) ≡ whyAt (read a n)
-unfolding whyOfRead whyAt readsOut
-read-why a n = go (eqb a framesAt) (accepted (readAnswer a n))
+unfolding whyOfRead whyAt
+read-why a n = rw (← readout-is a n) (go (eqb a framesAt) (accepted (readAnswer a n)))
   where
     go : (t s : Bool) → pick t (pick s why.Readout why.Nothing) why.Nothing ≡ pick (both s t) why.Readout why.Nothing
     go true true = refl
@@ -115,11 +120,11 @@ module _ (r : Recorded) (rs : List Recorded) where
   counts-wait = till-own countsOf (λ us es. simp zero-add) r rs
 
   pub held-wait : heldNow accelerometer (beforeOwn r rs) ≡ heldNow accelerometer (eventsOf rs)
-  unfolding since saysHere control
+  unfolding since saysHere byteBy
   held-wait = till-own (heldNow accelerometer) (λ us es. refl) r rs
 
   pub control-wait : control (beforeOwn r rs) ≡ control (eventsOf rs)
-  unfolding control
+  unfolding byteBy
   control-wait = till-own control (λ us es. refl) r rs
 
 -- ---- how large the counts can be
@@ -326,8 +331,8 @@ Counted es e = countsAfter (countsOf es) e (happens (after es) e .answer) (heldN
 
 -- a readout counts as one, and no other read does
 readouts-next : (es : List Event) (a n : ℕ) → readoutsIn (read a n ∷ es) ≡ readoutsIn es + readoutsBy a (readAnswer a n)
-unfolding readoutsIn readsOut
-readouts-next es a n = omega (arith, go (eqb a framesAt) (accepted (readAnswer a n)))
+unfolding readoutsIn
+readouts-next es a n = omega (arith, ap (worth 1) (sym (readout-is a n)) ∙ go (eqb a framesAt) (accepted (readAnswer a n)))
   where
     go : (s t : Bool) → worth 1 (both t s) ≡ pick (both s t) 1 0
     go true true = refl
@@ -338,9 +343,9 @@ readouts-next es a n = omega (arith, go (eqb a framesAt) (accepted (readAnswer a
 counts-next : {n : ℕ} (es : List Event) (e : Event) → Bounded n (countsOf es) → suc n < 2 ^ 64 → Counted es e
 unfolding countsAfter saysHere sampleOf readOf
 counts-next es powerUp few room = cleared-counts es powerUp few room refl refl
-counts-next es (write a byte) few room = go (clears a byte) refl
+counts-next es (write a byte) few room = go (clearsFifo es (write a byte)) refl
   where
-    go : (t : Bool) → clears a byte ≡ t → Counted es (write a byte)
+    go : (t : Bool) → clearsFifo es (write a byte) ≡ t → Counted es (write a byte)
     go true q = cleared-counts es (write a byte) few room (rw q) refl
     go false q = rw (none-gone es (write a byte) few room (rw q)) (same-counts es (write a byte) few room (rw q) refl)
 counts-next es (read a n) few room = go (readsOut a n) refl
@@ -348,11 +353,11 @@ counts-next es (read a n) few room = go (readsOut a n) refl
     go : (t : Bool) → readsOut a n ≡ t → Counted es (read a n)
     go true q = read-counts es (read a n) few room n (readoutsBy a (readAnswer a n)) (rw q) (readouts-next es a n)
     go false q = unread-counts es (read a n) few room (readoutsBy a (readAnswer a n)) (rw q) (readouts-next es a n)
-counts-next es (sample x y z temperature) few room = go (accepted (sampleAnswer x y z)) refl
+counts-next es (sample x y z temperature) few room = go (allInside x y z) refl
   where
-    go : (t : Bool) → accepted (sampleAnswer x y z) ≡ t → Counted es (sample x y z temperature)
-    go true q = rw q (sampled-counts es (sample x y z temperature) few room (frame (axesOf (control es)) x y z) (rw q) q refl)
-    go false q = rw q (rw q at (same-counts es (sample x y z temperature) few room (rw q) refl))
+    go : (t : Bool) → allInside x y z ≡ t → Counted es (sample x y z temperature)
+    go true q = let p = sample-is x y z ∙ q in rw p (sampled-counts es (sample x y z temperature) few room (frame (axesOf (control es)) x y z) (rw q) p refl)
+    go false q = let p = sample-is x y z ∙ q in rw p (rw p at (same-counts es (sample x y z temperature) few room (rw q) refl))
 counts-next es cycle few room = same-counts es cycle few room refl refl
 counts-next es (clock us) few room = same-counts es (clock us) few room refl refl
 
@@ -411,7 +416,7 @@ doubt-kept about undefined before number (clock us) h = refl
 
 -- ---- the account
 pub account-first : firstAccount ≡ accountOf []
-unfolding totals refusals readoutsIn doubtOf bank firstBytes theTable rangeOf modeOf control heldAfter since
+unfolding totals refusals readoutsIn doubtOf bank firstBytes theTable thePaper rangeOf modeOf heldAfter since
 account-first = refl
 
 -- one record more: the account is stepped by its own event, the answer, and the range, the mode and the frames held behind it

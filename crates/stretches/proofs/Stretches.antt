@@ -13,7 +13,7 @@ use Rattle.codes.specs.Addresses.{rangeAt}
 use Rattle.codes.specs.Range.{rangeOf, isReservedRange}
 use Rattle.paper.specs.Stored.{isSoftReset}
 use Rattle.events.specs.Event.{Event, powerUp, write, read, sample, cycle, clock}
-use Rattle.history.specs.History.{readsOut}
+use Rattle.paper.specs.Readouts.{readsOut}
 use Rattle.recorded.specs.Recorded.{Recorded, eventsOf}
 use Rattle.counts.specs.declared.Why.the-variants as why
 use Rattle.counts.specs.Counts.{differences, ends}

@@ -20,7 +20,8 @@ use Rattle.events.specs.Run.{after}
 use Rattle.events.specs.Views.{isPowerUp, atWrite, atRead}
 use Rattle.paper.specs.Stored.{isSoftReset}
 use Rattle.fifo.specs.Ledger.{Fate, held, lost}
-use Rattle.history.specs.History.{accelerometer, readsOut, control}
+use Rattle.paper.specs.Readouts.{readsOut}
+use Rattle.history.specs.History.{accelerometer, control}
 use Rattle.demand3.specs.Whole.{heldNow, totals}
 use Rattle.recorded.specs.Recorded.{Recorded, eventsOf, answerTo}
 use Rattle.counts.specs.declared.Account.{Account}
