@@ -22,9 +22,12 @@ use Rattle.events.proofs.Parts.{byParts, by-parts}
 use Rattle.events.proofs.Runs.{bank-is}
 use Rattle.rules.proofs.Proper.{proper}
 use Rattle.rules.proofs.Registers.{registers}
-use Rattle.anymotion.specs.InForce.{timeAsked}
-use Rattle.anymotion.specs.Status.{clockSince, expires}
-use Rattle.anymotion.proofs.Detector.{motionAfter, detector-is, expiry-when, below}
+use Rattle.lookback.specs.InForce.{timeAsked}
+use Rattle.lookback.specs.Watch.{goingBy}
+use Rattle.lookback.specs.Seen.{clockSince, expires}
+use Rattle.lookback.proofs.Seen.{expiry-when, below}
+use Rattle.anymotion.specs.Status.{anyMotion}
+use Rattle.anymotion.proofs.Detector.{lawful, motionAfter, detector-is}
 
 -- ---- the write
 -- Q-4, "14 is gone": 0x21 takes every byte
@@ -51,12 +54,13 @@ latch-again es =
     rw is (merged-again (w .byte))
 
 -- ---- the clock
-module _ (es : List Event) (us : ℕ) (x : expires es (clock us) ≡ true) where
+module _ (es : List Event) (us : ℕ) (x : expires anyMotion es (clock us) ≡ true) where
   motion-restarts : clocked us (after es .detectors .motion) ≡ restarted (after es .detectors .motion)
+  unfolding goingBy
   motion-restarts =
-      let w = expiry-when es (clock us) x in
-      let b = below es (w .0) (w .1) in
-      let r : motionAfter es .alarm .remaining ≡ timeAsked es - clockSince es = rw (w .0) in
+      let w = expiry-when anyMotion lawful es (clock us) x in
+      let b = below anyMotion lawful es (w .0) (w .1) in
+      let r : motionAfter es .alarm .remaining ≡ timeAsked es - clockSince anyMotion es = rw (w .0) in
       rw (detector-is es) (clocked-reached (motionAfter es) us (rw r (omega (arith, b))) (rw r (omega (arith, w .2))))
 
   pub as-written : after (clock us ∷ es) ≡ after (write 0x21 (stored es 0x21) ∷ es)

@@ -1,6 +1,3 @@
-pub mod Split
-pub mod Settings
-pub mod Points
 pub mod Detector
 pub mod Promise
 pub mod Setter

@@ -1,5 +1,3 @@
-pub mod InForce
-pub mod Points
 pub mod Status
 pub mod Marks
 pub mod Held

@@ -6,14 +6,15 @@ use mathlib.Core.Path.{_≡_, refl, sym, ap, _∙_}
 use native.Mathlib.Omega.{arith}
 use borrow.Author.Tests.{le-leb}
 use lib.Dec.{leb}
+use lib.ListN.{length}
 use Rattle.laws.specs.Choice.{pick, both}
 use Rattle.laws.proofs.Finite.{right}
 use Rattle.events.specs.Event.{Event, clock}
-use Rattle.lookback.specs.InForce.{timeAsked, beginsAnew, microsecondsAt}
-use Rattle.lookback.specs.Sight.{Sight, point, passed}
-use Rattle.lookback.specs.Watch.{Watch, Going, goingBy, restarts}
+use Rattle.lookback.specs.InForce.{timeAsked, beginsAnew, Signed, brings, microsecondsAt}
+use Rattle.lookback.specs.Sight.{point, passed, pointsIn}
+use Rattle.lookback.specs.Watch.{Watch, Going, goingBy, restarts, pointAmong, pointAt}
 use Rattle.lookback.specs.Seen.{isSetBy, sinceBy, seen, isSet, clockSince, expires, setsAt}
-use Rattle.lookback.specs.Held.{clockOver, NoneRestarts, SetFor, Clears, HeldFor}
+use Rattle.lookback.specs.Held.{clockOver, samplesOver, NoneRestarts, SetFor, Clears, HeldFor}
 use Rattle.lookback.proofs.InForce.{timed-holds}
 use Rattle.lookback.proofs.Seen.{Lawful, Next, anew, rest, more, one, none, kept, expiry-when, seen-expired, next, expiry-clears}
 use Rattle.lookback.proofs.Stays.{marks-clear, sign-over-expiry}
@@ -106,6 +107,7 @@ module _ (w : Watch) (l : Lawful w) where
           let n = expiry-clears w l (behind later) (clock us) reaches in
           let q : clockSince w (behind later) + us - time (behind later) ≡ us + clockOver later - time (e ∷ es) = rw (k .since, k .same) (omega arith) in
           record {
+            expired = reaches;
             status = n;
             mark = marks-clear w (clock us ∷ behind later) n;
             sign = sign-over-expiry w l (behind later) (clock us) refl reaches;
@@ -118,3 +120,21 @@ module _ (w : Watch) (l : Lawful w) where
     stands = λ short. waits es e (s .set) (s .timed) later (s .none) short .status;
     clears = λ us short long. cleared-at es e (s .set) (s .timed) later us (waits es e (s .set) (s .timed) later (s .none) short) long;
   }
+
+  -- ---- no more points than samples: where no point counts, those that count later are no more than the samples that came since
+  module _ (es : List Event) (none-left : pointsIn (seen w es) ≡ []) where
+    pub points-since : (later : List Event) → length (pointsIn (seen w (later ++ es))) ≤ samplesOver later
+    unfolding pointAt
+    points-since [] = rw none-left (omega arith)
+    points-since (e ∷ later) = go (points-since later) (next w l (later ++ es) e)
+      where
+        brought : (p : w .Point) (vs : List Signed) → pointAmong w (later ++ es) vs ≡ p ∷ [] → 1 ≤ length vs
+        brought p [] f = let z : _≡_ {A = ℕ} 0 1 = cc in absurd (omega arith)
+        brought p (v ∷ vs) f = omega arith
+
+        go : length (pointsIn (seen w (later ++ es))) ≤ samplesOver later → Next w (later ++ es) e → length (pointsIn (seen w (e ∷ (later ++ es)))) ≤ length (brings e) + samplesOver later
+        go few (anew r s) = rw s (omega arith)
+        go few (rest us is r x s) = rw s (omega arith)
+        go few (more us is r x s) = rw s (omega (arith, few))
+        go few (one p n r f s) = rw s (omega (arith, few, brought p (brings e) f))
+        go few (none c n r f s) = rw s (omega (arith, few))

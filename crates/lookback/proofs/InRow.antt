@@ -1,6 +1,6 @@
 -- 01, "N over points in a row set it .. Non-latched, N calm points in a row clear it": of a detector that is set and cleared so, the status that looks
 -- back is 1 exactly where the points have such a row. Assumes nothing.
-use Prim.Native.Nat.{ℕ, zero, suc, _+_}
+use Prim.Native.Nat.{ℕ, zero, suc, _+_, _≤_}
 use mathlib.Core.Bool.{Bool, true, false, not}
 use mathlib.Core.List.{List, [], _∷_, _++_}
 use mathlib.Core.Logic.{_↔_}
@@ -51,8 +51,12 @@ module _ {P : Type 0} (so : P → Bool) where
   last-longer (suc n) (p ∷ ps) qs h = rw (left (so p) (lastAre so n ps) h) (last-longer n ps qs (right (so p) (lastAre so n ps) h))
 
   -- ---- rows of one point or more
-  none-in-none : (n : ℕ) → ¬ InRow so (suc n) []
-  none-in-none n r =
+  first-so : (n : ℕ) (p : P) (ps : List P) → 1 ≤ n → lastAre so n (p ∷ ps) ≡ true → so p ≡ true
+  first-so zero p ps some h = absurd (omega arith)
+  first-so (suc n) p ps some h = left (so p) (lastAre so n ps) h
+
+  none-in-none : (n : ℕ) → 1 ≤ n → ¬ InRow so n []
+  none-in-none n some r =
       let e : length (r .later) + (length (r .row) + length (r .earlier)) ≡ 0 = sym (simp length-append at (ap length (r .split))) in
       omega (arith, r .many)
 
@@ -78,18 +82,18 @@ module _ {P : Type 0} (so : P → Bool) where
       go (q ∷ later) e = w (record { later = later; row = r .row; earlier = r .earlier; split = cc; many = r .many; all = r .all })
 
 -- ---- the detector
-module _ (w : Watch) (g : Going (w .Setting)) (isOver : w .Point → Bool) (k : ℕ)
-    (sets-is : (ss : List (Sight (w .Point))) → w .sets (g .own) ss ≡ lastAre isOver (suc k) (pointsIn ss))
-    (clears-is : (ss : List (Sight (w .Point))) → w .clears (g .own) ss ≡ lastAre (λ p. not (isOver p)) (suc k) (pointsIn ss)) where
+module _ (w : Watch) (g : Going (w .Setting)) (isOver : w .Point → Bool) (n : ℕ) (some : 1 ≤ n)
+    (sets-is : (ss : List (Sight (w .Point))) → w .sets (g .own) ss ≡ lastAre isOver n (pointsIn ss))
+    (clears-is : (ss : List (Sight (w .Point))) → w .clears (g .own) ss ≡ lastAre (λ p. not (isOver p)) n (pointsIn ss)) where
   abbrev isCalm : w .Point → Bool
   isCalm p = not (isOver p)
 
   -- calm points that reach as far as an over one end before it
-  calm-within : (n : ℕ) (ps : List (w .Point)) (p : w .Point) (qs : List (w .Point)) → isOver p ≡ true → lastAre isCalm n (ps ++ (p ∷ qs)) ≡ true → lastAre isCalm n ps ≡ true
+  calm-within : (m : ℕ) (ps : List (w .Point)) (p : w .Point) (qs : List (w .Point)) → isOver p ≡ true → lastAre isCalm m (ps ++ (p ∷ qs)) ≡ true → lastAre isCalm m ps ≡ true
   calm-within zero ps p qs o h = refl
-  calm-within (suc n) [] p qs o h = let f : false ≡ true = rw o at h in cc
-  calm-within (suc n) (q ∷ ps) p qs o h =
-      rw (left (isCalm q) (lastAre isCalm n (ps ++ (p ∷ qs))) h) (calm-within n ps p qs o (right (isCalm q) (lastAre isCalm n (ps ++ (p ∷ qs))) h))
+  calm-within (suc m) [] p qs o h = let f : false ≡ true = rw o at h in cc
+  calm-within (suc m) (q ∷ ps) p qs o h =
+      rw (left (isCalm q) (lastAre isCalm m (ps ++ (p ∷ qs))) h) (calm-within m ps p qs o (right (isCalm q) (lastAre isCalm m (ps ++ (p ∷ qs))) h))
 
   points-joined : (later ss : List (Sight (w .Point))) → pointsIn (later ++ ss) ≡ pointsIn later ++ pointsIn ss
   points-joined [] ss = refl
@@ -97,65 +101,65 @@ module _ (w : Watch) (g : Going (w .Setting)) (isOver : w .Point → Bool) (k : 
   points-joined (passed us ∷ later) ss = points-joined later ss
 
   -- where no later point clears, no N calm points in a row came later
-  none-calm : (ss later : List (Sight (w .Point))) → NoneClears w g ss later → ¬ InRow isCalm (suc k) (pointsIn later)
-  none-calm ss [] n = none-in-none isCalm k
-  none-calm ss (point p ∷ later) n = front-or-within isCalm (suc k) p (pointsIn later) (not-front (lastAre isCalm (suc k) (p ∷ pointsIn later)) refl) (none-calm ss later (n .1))
+  none-calm : (ss later : List (Sight (w .Point))) → NoneClears w g ss later → ¬ InRow isCalm n (pointsIn later)
+  none-calm ss [] c = none-in-none isCalm n some
+  none-calm ss (point p ∷ later) c = front-or-within isCalm n p (pointsIn later) (not-front (lastAre isCalm n (p ∷ pointsIn later)) refl) (none-calm ss later (c .1))
     where
-      not-front : (t : Bool) → lastAre isCalm (suc k) (p ∷ pointsIn later) ≡ t → t ≡ false
+      not-front : (t : Bool) → lastAre isCalm n (p ∷ pointsIn later) ≡ t → t ≡ false
       not-front true f =
-          let l : lastAre isCalm (suc k) (p ∷ pointsIn (later ++ ss)) ≡ true = rw (points-joined later ss) (last-longer isCalm (suc k) (p ∷ pointsIn later) (pointsIn ss) f) in
-          sym l ∙ (sym (clears-is (point p ∷ (later ++ ss))) ∙ n .0)
+          let l : lastAre isCalm n (p ∷ pointsIn (later ++ ss)) ≡ true = rw (points-joined later ss) (last-longer isCalm n (p ∷ pointsIn later) (pointsIn ss) f) in
+          sym l ∙ (sym (clears-is (point p ∷ (later ++ ss))) ∙ c .0)
       not-front false f = refl
-  none-calm ss (passed us ∷ later) n = none-calm ss later n
+  none-calm ss (passed us ∷ later) c = none-calm ss later c
 
   -- what is said of the points holds of what was seen
-  module _ (p : w .Point) (earlier : List (w .Point)) (row : lastAre isOver (suc k) (p ∷ earlier) ≡ true) where
-    came-of : (ss : List (Sight (w .Point))) (later : List (w .Point)) → pointsIn ss ≡ later ++ (p ∷ earlier) → (g .nonLatched ≡ true → ¬ InRow isCalm (suc k) later)
+  module _ (p : w .Point) (earlier : List (w .Point)) (row : lastAre isOver n (p ∷ earlier) ≡ true) where
+    came-of : (ss : List (Sight (w .Point))) (later : List (w .Point)) → pointsIn ss ≡ later ++ (p ∷ earlier) → (g .nonLatched ≡ true → ¬ InRow isCalm n later)
         → (c : CameSet w g ss) × (c .setter ≡ p) × (pointsIn (c .earlier) ≡ earlier)
-    came-of [] later e n = let l : 0 ≡ length later + suc (length earlier) = simp length-append at (ap length e) in absurd (omega arith)
-    came-of (passed us ∷ ss) later e n = let c = came-of ss later e n in (further w g (passed us) ss (c .0) (c .0 .since), c .1, c .2)
-    came-of (point q ∷ ss) [] e n =
+    came-of [] later e c = let l : 0 ≡ length later + suc (length earlier) = simp length-append at (ap length e) in absurd (omega arith)
+    came-of (passed us ∷ ss) later e u = let c = came-of ss later e u in (further w g (passed us) ss (c .0) (c .0 .since), c .1, c .2)
+    came-of (point q ∷ ss) [] e c =
         let i : q ≡ p = cc in
         let j : pointsIn ss ≡ earlier = cc in
         (here w g q ss (sets-is (point q ∷ ss) ∙ rw (i, j) row), i, j)
-    came-of (point q ∷ ss) (l ∷ later) e n =
+    came-of (point q ∷ ss) (l ∷ later) e none =
         let j : pointsIn ss ≡ later ++ (p ∷ earlier) = cc in
         let i : q ≡ l = cc in
-        let c = came-of ss later j (λ u r. n u (row-further isCalm (suc k) l later r)) in
-        (on w g q ss (c .0) (λ u. clears-is (point q ∷ ss) ∙ not-calm i j u (lastAre isCalm (suc k) (q ∷ pointsIn ss)) refl), c .1, c .2)
+        let c = came-of ss later j (λ u r. none u (row-further isCalm n l later r)) in
+        (on w g q ss (c .0) (λ u. clears-is (point q ∷ ss) ∙ not-calm i j u (lastAre isCalm n (q ∷ pointsIn ss)) refl), c .1, c .2)
       where
-        not-calm : q ≡ l → pointsIn ss ≡ later ++ (p ∷ earlier) → g .nonLatched ≡ true → (t : Bool) → lastAre isCalm (suc k) (q ∷ pointsIn ss) ≡ t → t ≡ false
+        not-calm : q ≡ l → pointsIn ss ≡ later ++ (p ∷ earlier) → g .nonLatched ≡ true → (t : Bool) → lastAre isCalm n (q ∷ pointsIn ss) ≡ t → t ≡ false
         not-calm i j u true f =
-            absurd (n u (at-front isCalm (suc k) (l ∷ later) (calm-within (suc k) (l ∷ later) p earlier (left (isOver p) (lastAre isOver k earlier) row) (rw (i, j) at f))))
+            absurd (none u (at-front isCalm n (l ∷ later) (calm-within n (l ∷ later) p earlier (first-so isOver n p earlier some row) (rw (i, j) at f))))
         not-calm i j u false f = refl
 
   module _ (ss : List (Sight (w .Point))) where
-    came-in-row : CameSet w g ss → CameInRow isOver (suc k) (g .nonLatched) (pointsIn ss)
+    came-in-row : CameSet w g ss → CameInRow isOver n (g .nonLatched) (pointsIn ss)
     came-in-row c = record {
       came = record {
         later = pointsIn (c .later);
-        row = take (suc k) (c .setter ∷ pointsIn (c .earlier));
-        earlier = drop (suc k) (c .setter ∷ pointsIn (c .earlier));
-        split = ap pointsIn (c .split) ∙ points-joined (c .later) (point (c .setter) ∷ c .earlier) ∙ ap (λ (qs : List (w .Point)). pointsIn (c .later) ++ qs) (sym (take-append-drop (suc k) (c .setter ∷ pointsIn (c .earlier))));
-        many = taken-many isOver (suc k) (c .setter ∷ pointsIn (c .earlier)) (sym (sets-is (point (c .setter) ∷ c .earlier)) ∙ c .sets);
-        all = taken-all isOver (suc k) (c .setter ∷ pointsIn (c .earlier)) (sym (sets-is (point (c .setter) ∷ c .earlier)) ∙ c .sets);
+        row = take n (c .setter ∷ pointsIn (c .earlier));
+        earlier = drop n (c .setter ∷ pointsIn (c .earlier));
+        split = ap pointsIn (c .split) ∙ points-joined (c .later) (point (c .setter) ∷ c .earlier) ∙ ap (λ (qs : List (w .Point)). pointsIn (c .later) ++ qs) (sym (take-append-drop n (c .setter ∷ pointsIn (c .earlier))));
+        many = taken-many isOver n (c .setter ∷ pointsIn (c .earlier)) (sym (sets-is (point (c .setter) ∷ c .earlier)) ∙ c .sets);
+        all = taken-all isOver n (c .setter ∷ pointsIn (c .earlier)) (sym (sets-is (point (c .setter) ∷ c .earlier)) ∙ c .sets);
       };
       since = λ u. none-calm (point (c .setter) ∷ c .earlier) (c .later) (c .since u);
     }
 
-    in-row-came : CameInRow isOver (suc k) (g .nonLatched) (pointsIn ss) → CameSet w g ss
+    in-row-came : CameInRow isOver n (g .nonLatched) (pointsIn ss) → CameSet w g ss
     in-row-came r = go (r .came .row) (r .came .many) (r .came .all) (r .came .split)
       where
-        go : (row : List (w .Point)) → length row ≡ suc k → every isOver row ≡ true → pointsIn ss ≡ r .came .later ++ (row ++ r .came .earlier) → CameSet w g ss
+        go : (row : List (w .Point)) → length row ≡ n → every isOver row ≡ true → pointsIn ss ≡ r .came .later ++ (row ++ r .came .earlier) → CameSet w g ss
         go [] m a e = absurd (omega arith)
-        go (p ∷ row) m a e = came-of p (row ++ r .came .earlier) (row-last isOver (suc k) (p ∷ row) (r .came .earlier) m a) ss (r .came .later) e (r .since) .0
+        go (p ∷ row) m a e = came-of p (row ++ r .came .earlier) (row-last isOver n (p ∷ row) (r .came .earlier) m a) ss (r .came .later) e (r .since) .0
 
-    pub set-when : (isSetBy w g ss ≡ true) ↔ CameInRow isOver (suc k) (g .nonLatched) (pointsIn ss)
+    pub set-when : (isSetBy w g ss ≡ true) ↔ CameInRow isOver n (g .nonLatched) (pointsIn ss)
     set-when = ((λ h. came-in-row (sights.set-when w g ss .0 h)), (λ r. sights.set-when w g ss .1 (in-row-came r)))
 
   -- and so is the point that set it
   module _ (ss : List (Sight (w .Point))) where
-    pub setter-in-row : SetAt w g ss → SetInRow isOver (suc k) (g .nonLatched) (pointsIn ss)
+    pub setter-in-row : SetAt w g ss → SetInRow isOver n (g .nonLatched) (pointsIn ss)
     setter-in-row a = record {
       later = pointsIn (a .came .later);
       point = a .came .setter;
@@ -166,7 +170,7 @@ module _ (w : Watch) (g : Going (w .Setting)) (isOver : w .Point → Bool) (k : 
       since = λ u. none-calm (point (a .came .setter) ∷ a .came .earlier) (a .came .later) (a .came .since u);
     }
 
-    pub in-row-setter : (s : SetInRow isOver (suc k) (g .nonLatched) (pointsIn ss)) → (a : SetAt w g ss) × (a .came .setter ≡ s .point)
+    pub in-row-setter : (s : SetInRow isOver n (g .nonLatched) (pointsIn ss)) → (a : SetAt w g ss) × (a .came .setter ≡ s .point)
     in-row-setter s =
         let c = came-of (s .point) (s .earlier) (s .row) ss (s .later) (s .split) (s .since) in
         (record { came = c .0; before = new (c .0 .earlier) (c .2) (isSetBy w g (c .0 .earlier)) refl }, c .1)
@@ -177,8 +181,11 @@ module _ (w : Watch) (g : Going (w .Setting)) (isOver : w .Point → Bool) (k : 
 
   -- N calm points in a row do not end with an over one
   pub apart : (p : w .Point) (ss : List (Sight (w .Point))) → w .clears (g .own) (point p ∷ ss) ≡ true → w .sets (g .own) (point p ∷ ss) ≡ false
-  apart p ss h = sets-is (point p ∷ ss) ∙ go (isOver p) (lastAre isCalm k (pointsIn ss)) (sym (clears-is (point p ∷ ss)) ∙ h)
+  apart p ss h = sets-is (point p ∷ ss) ∙ go (lastAre isOver n (p ∷ pointsIn ss)) refl
     where
-      go : (o c : Bool) → both (not o) c ≡ true → both o (lastAre isOver k (pointsIn ss)) ≡ false
-      go true c f = cc
-      go false c f = refl
+      calm : not (isOver p) ≡ true
+      calm = first-so isCalm n p (pointsIn ss) some (sym (clears-is (point p ∷ ss)) ∙ h)
+
+      go : (t : Bool) → lastAre isOver n (p ∷ pointsIn ss) ≡ t → t ≡ false
+      go true f = sym (rw (first-so isOver n p (pointsIn ss) some f) at calm)
+      go false f = refl

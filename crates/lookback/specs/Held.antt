@@ -4,17 +4,23 @@ use Prim.Native.Nat.{ℕ, _+_, _-_, _<_, _≤_}
 use mathlib.Core.Bool.{true, false}
 use mathlib.Core.List.{List, [], _∷_, _++_}
 use mathlib.Core.Path.{_≡_}
+use lib.ListN.{length}
 use Rattle.events.specs.Event.{Event, clock}
-use Rattle.lookback.specs.InForce.{timeAsked, microsecondsAt}
+use Rattle.lookback.specs.InForce.{timeAsked, brings, microsecondsAt}
 use Rattle.lookback.specs.Sight.{passed}
 use Rattle.lookback.specs.Watch.{Watch, restarts}
-use Rattle.lookback.specs.Seen.{isSet, setsAt, seen}
+use Rattle.lookback.specs.Seen.{seen, isSet, expires, setsAt}
 use Rattle.lookback.specs.Marks.{markShown, signShown}
 
 -- "the clock since its setting": a sum over the events that came since, whatever they are
 abbrev pub clockOver : List Event → ℕ
 clockOver [] = 0
 clockOver (e ∷ later) = microsecondsAt e + clockOver later
+
+-- how many samples these events bring: accepted ones, each of which can give one point at the most
+abbrev pub samplesOver : List Event → ℕ
+samplesOver [] = 0
+samplesOver (e ∷ later) = length (brings e) + samplesOver later
 
 module _ (w : Watch) where
   -- none of the later events, which come behind es, is power-up, a soft reset or a write that clears status, marks and runs
@@ -30,6 +36,7 @@ module _ (w : Watch) where
 
   -- at this clock the status clears, with marks and runs: what of the clock comes after the time is all that is seen. The sign is none of these
   pub record Clears (es : List Event) (us rest : ℕ) : Type 0 where
+    pub expired : expires w es (clock us) ≡ true
     pub status : isSet w (clock us ∷ es) ≡ false
     pub mark : markShown w (clock us ∷ es) ≡ 0
     pub sign : signShown w (clock us ∷ es) ≡ signShown w es
