@@ -71,7 +71,7 @@ run-is : (es : List Event) {h end : Harness} {cs : List Call} {ss : List Seen} �
 unfolding after
 run-is es e no-more = (refl, e)
 run-is es e (on-power-up p later) = run-is (powerUp ∷ es) p later
-run-is es e (on-event {c = c} {s = s} t p later) =
+run-is es e (on-event {c = c} {s = s} p later) =
     let one = call-leaves es c s e p in
     let on = run-is (eventOnto (eventFor c) es) (one .1) later in
     (λ i. one .0 i ∷ on .0 i, on .1)

@@ -13,6 +13,7 @@ use Rattle.laws.specs.Choice.{pick}
 use Rattle.laws.specs.Lists.{isIn}
 use Rattle.laws.proofs.Finite.{picked}
 use Rattle.device.specs.Parts.{coreOf, registersOf, framesOf}
+use Rattle.device.specs.Device.{reg}
 use Rattle.device.specs.declared.Device.{Device}
 use Rattle.events.specs.Event.{Event, powerUp, write, read, sample, cycle, clock, gives}
 use Rattle.outcomes.specs.Numbers.{answersTo}
@@ -22,7 +23,7 @@ use Rattle.outcomes.proofs.Refusals.{event-unchanged, read-unchanged, nothing-e
 use Rattle.outcomes.proofs.Words.{no}
 use Rattle.twin.specs.Entry.{deviceIn, asked, stepOf, lentAt}
 use Rattle.twin.specs.declared.Harness.{Harness}
-use Rattle.calls.specs.Calls.{Handed, Typed, Seen, requested, Leaves, eventFor, OneCall}
+use Rattle.calls.specs.Calls.{Handed, Seen, requested, Leaves, eventFor, OneCall}
 
 -- the entry takes 01's numbers for the kinds
 pub requested-is : (c : Handed) → requested c ≡ eventFor c
@@ -104,17 +105,17 @@ module _ (d : Device) (c : Handed) where
       (picked Unchanged (eqb (c .kind) 5) (λ h. (event-unchanged d (clock (c .microseconds)) h .0, refl)) (λ h. (refl, refl))))))
 
 -- ---- an event that is asked for can be
-module _ (c : Handed) (t : Typed c) where
+module _ (c : Handed) where
   abbrev AskableIf : Option Event → Type 0
   AskableIf (some e) = Askable e (c .buffer)
   AskableIf none = Unit {0}
 
   askable : AskableIf (eventFor c)
   askable =
-      picked AskableIf (eqb (c .kind) 1) (t .byte)
+      picked AskableIf (eqb (c .kind) 1) tt
       (picked AskableIf (eqb (c .kind) 2) refl (picked AskableIf (eqb (c .kind) 3) tt (picked AskableIf (eqb (c .kind) 4) tt (picked AskableIf (eqb (c .kind) 5) tt tt))))
 
-  exactly : (d : Device) (e : Event) → eventFor c ≡ some e → {number : ℕ} → number ≡ stepOf d (eventFor c) .number → (n : ℕ) → (number ≡ n) ↔ Due e n
+  exactly : (d : Device) (e : Event) → eventFor c ≡ some e → {number : ℕ} → number ≡ stepOf d (eventFor c) .number → (n : ℕ) → (number ≡ n) ↔ Due (reg d) e n
   exactly d e is p = rw (p, is) (demand1 .event d e (c .buffer) (subst AskableIf is askable) .exactly)
 
 -- ---- so of one call
@@ -125,5 +126,5 @@ one-call h h′ c s p =
     record {
       refused = still;
       no-kind = (λ is. some-event c (eight-none (deviceIn h) (eventFor c) (sym (q .0) ∙ is)), λ no. q .0 ∙ ap (λ (e : Option Event). stepOf (deviceIn h) e .number) (no-event c no));
-      tabled = λ t e is. record { exactly = exactly c t (deviceIn h) e is (q .0); unchanged = λ n. let u = still n in λ i. (u .0 i, u .1 i) };
+      tabled = λ e is. record { exactly = exactly c (deviceIn h) e is (q .0); unchanged = λ n. let u = still n in λ i. (u .0 i, u .1 i) };
     }

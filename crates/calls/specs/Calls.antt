@@ -1,6 +1,6 @@
 -- 01, "one thin entry that borrows the harness's own record and updates it for one event": power-up and then calls, one after the other, and
 -- what their caller sees, from the events that they ask for alone. In a history the latest event stands first.
-use Prim.Native.Nat.{ℕ, _<_, _≤_, _/_, _%_}
+use Prim.Native.Nat.{ℕ, _≤_, _/_, _%_}
 use mathlib.Core.Bool.{true}
 use mathlib.Core.List.{List, [], _∷_}
 use mathlib.Core.Logic.{_↔_, _≢_}
@@ -44,12 +44,6 @@ pub record Handed : Type 0 where
   pub buffer : List ℕ
   pub microseconds : ℕ
 
--- `uint8_t kind, uint8_t address, uint8_t byte`
-pub record Typed (c : Handed) : Type 0 where
-  pub kind : c .kind < 256
-  pub address : c .address < 256
-  pub byte : c .byte < 256
-
 -- a call of twin_power_up, or of twin_event
 pub data Call : Type 0 where
   powersUp : Call
@@ -76,7 +70,7 @@ pub data CallsMade : Harness → List Call → List Seen → Harness → Type 0 
   no-more : {h : Harness} → CallsMade h [] [] h
   on-power-up : {h h′ end : Harness} {cs : List Call} {ss : List Seen} → deviceIn h′ ≡ device.powerUp → CallsMade h′ cs ss end → CallsMade h (powersUp ∷ cs) ss end
   on-event : {h h′ end : Harness} {c : Handed} {s : Seen} {cs : List Call} {ss : List Seen}
-      → Typed c → Leaves (deviceIn h) c s (deviceIn h′) → CallsMade h′ cs ss end → CallsMade h (hands c ∷ cs) (s ∷ ss) end
+      → Leaves (deviceIn h) c s (deviceIn h′) → CallsMade h′ cs ss end → CallsMade h (hands c ∷ cs) (s ∷ ss) end
 
 -- ---- the same, from the events
 -- "1 write (address, byte; ..), 2 read (address, count; ..), 3 sample (x, y, z .., temperature; ..), 4 cycle start", and Q-4's "log kind 5". A
@@ -135,7 +129,7 @@ pub record OneCall (h : Harness) (c : Handed) (s : Seen) (h′ : Harness) : Type
   -- 8, "record length or kind wrong": of any kind but 1 to 5, and of these never. So nothing changes then
   pub no-kind : (s .number ≡ 8) ↔ (¬ ((1 ≤ c .kind) × (c .kind ≤ 5)))
   -- demand 1: where an event is asked for, each of its numbers is given exactly when 01 says
-  pub tabled : Typed c → (e : Event) → eventFor c ≡ some e → Tabled (Harness × List ℕ) (Due e) (s .number) (h, c .buffer) (h′, s .buffer)
+  pub tabled : (e : Event) → eventFor c ≡ some e → Tabled (Harness × List ℕ) (Due (device.reg (deviceIn h)) e) (s .number) (h, c .buffer) (h′, s .buffer)
 
 -- ---- power-up and then any calls, whatever the record held before: what was seen, and the record at the end
 pub record Served (cs : List Call) (ss : List Seen) (end : Harness) : Type 0 where

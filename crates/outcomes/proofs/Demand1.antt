@@ -13,6 +13,7 @@ use lib.Seq.{drop-drop}
 use Rattle.laws.specs.Choice.{both}
 use Rattle.laws.specs.Refusals.{first}
 use Rattle.registers.proofs.Answers.{zero-accepted}
+use Rattle.device.specs.Device.{reg}
 use Rattle.device.specs.declared.Device.{Device}
 use Rattle.events.specs.Event.{Event, powerUp, write, read, sample, cycle, clock, happens, gives, lentBy}
 use Rattle.events.specs.Run.{next}
@@ -31,11 +32,12 @@ use Rattle.benchlog.specs.declared.Read.{Read}
 use Rattle.benchlog.specs.declared.Room.{Room}
 use Rattle.benchlog.specs.declared.Room.the-variants as room
 use Rattle.benchlog.proofs.Heads.{found-stands, stands-whole}
-use Rattle.outcomes.specs.Numbers.{isReservedWrite, isDetectorWrite, isPowerModeWrite, isTestOrTrimWrite}
+use Rattle.paper.specs.Refused.{isReservedWrite, isDetectorWrite, isPowerModeWrite, isTestOrTrimWrite}
+use Rattle.paper.specs.Samples.{allInside}
 use Rattle.outcomes.specs.LogNumbers.{EmptyLog, NotVersionOne, KindOfLength, WrongRecordLength, BodyCut, RightKind, CutAt, WrongAt, RightAt, spelled}
 use Rattle.outcomes.specs.Demand1.{_when_else_, done, Due, DueAtStart, recordLength, DueAtPlace, DueOfLog, Tabled, Askable, Demand1}
 use Rattle.outcomes.specs.Demand1.{DueFrom, at-end, at-refusal, behind-record}
-use Rattle.outcomes.proofs.Words.{Means, no, less, equal, and, or, outside}
+use Rattle.outcomes.proofs.Words.{Means, no, less, equal, and, or, is-false}
 use Rattle.outcomes.proofs.Refusals as refusals
 use Rattle.outcomes.proofs.LogRefusals as logs
 
@@ -74,30 +76,30 @@ tested {k = k} {n = n} {Holds = Holds} {Behind = Behind} w there behind = go (de
     go (inr p) = inr (p, behind p)
 
 -- ---- events
-due-one : (e : Event) → One (Due e)
-due-one powerUp = done-one
-due-one (write a byte) = test-one (test-one (test-one (test-one (test-one done-one))))
-due-one (read a n) = test-one (test-one (test-one done-one))
-due-one (sample x y z temperature) = test-one done-one
-due-one cycle = done-one
-due-one (clock us) = done-one
+due-one : (held : ℕ → ℕ) (e : Event) → One (Due held e)
+due-one held powerUp = done-one
+due-one held (write a byte) = test-one (test-one (test-one (test-one (test-one done-one))))
+due-one held (read a n) = test-one (test-one (test-one done-one))
+due-one held (sample x y z temperature) = test-one done-one
+due-one held cycle = done-one
+due-one held (clock us) = done-one
 
-event-due : (d : Device) (e : Event) (buffer : List ℕ) → Askable e buffer → Due e (gives d e .number)
+event-due : (d : Device) (e : Event) (buffer : List ℕ) → Askable e buffer → Due (reg d) e (gives d e .number)
 event-due d powerUp buffer h = refl
 event-due d (write a byte) buffer h =
     tested (less 0x3F a) (refusals.write-1 d a byte .1) (λ at.
-    tested (isTrue (isReservedWrite a byte)) (λ p. refusals.write-2 d a byte h .1 (at, p)) (λ code.
-    tested (isTrue (isDetectorWrite a byte)) (λ p. refusals.write-11 d a byte h .1 (at, (code, p))) (λ detector.
-    tested (isTrue (isPowerModeWrite a byte)) (λ p. refusals.write-12 d a byte h .1 (at, (code, p))) (λ mode.
-    tested (isTrue (isTestOrTrimWrite a byte)) (λ p. refusals.write-13 d a byte h .1 (at, (code, p))) (λ trim.
-    refusals.write-0 d a byte h .1 (at, (code, ⊎-elim detector (⊎-elim mode trim))))))))
+    tested (isTrue (isReservedWrite (reg d) a byte)) (λ p. refusals.write-2 d a byte .1 (at, p)) (λ code.
+    tested (isTrue (isDetectorWrite a byte)) (λ p. refusals.write-11 d a byte .1 (at, (code, p))) (λ detector.
+    tested (isTrue (isPowerModeWrite a byte)) (λ p. refusals.write-12 d a byte .1 (at, (code, p))) (λ mode.
+    tested (isTrue (isTestOrTrimWrite a byte)) (λ p. refusals.write-13 d a byte .1 (at, (code, p))) (λ trim.
+    refusals.write-0 d a byte .1 (at, (code, ⊎-elim detector (⊎-elim mode trim))))))))
 event-due d (read a n) buffer h =
     tested (less 0x3F a) (refusals.read-1 d a n .1) (λ at.
     tested (or (equal n 0) (less 192 n)) (λ p. refusals.read-5 d a n .1 (at, p)) (λ long.
     tested (and (less a 0x3F) (λ _. less 0x3F (a + n))) (λ p. refusals.read-6 d a n .1 (at, (long, p))) (λ passing.
     refusals.read-0 d a n .1 (at, (long, passing)))))
 event-due d (sample x y z temperature) buffer h =
-    tested (or (outside x) (or (outside y) (outside z))) (refusals.sample-4 d x y z temperature .1) (refusals.sample-0 d x y z temperature .1)
+    tested (is-false (allInside x y z)) (refusals.sample-4 d x y z temperature .1) (refusals.sample-0 d x y z temperature .1)
 event-due d cycle buffer h = refusals.cycle-done d
 event-due d (clock us) buffer h = refusals.clock-done d us
 
@@ -119,9 +121,9 @@ lent-filled d cycle buffer h z = refl
 lent-filled d (clock us) buffer h z = refl
 
 event-tabled : (d : Device) (e : Event) (buffer : List ℕ) → Askable e buffer
-    → Tabled (Device × List ℕ) (Due e) (gives d e .number) (d, buffer) (next d e, lentBy d e buffer)
+    → Tabled (Device × List ℕ) (Due (reg d) e) (gives d e .number) (d, buffer) (next d e, lentBy d e buffer)
 event-tabled d e buffer h = record {
-  exactly = exactly (due-one e) (event-due d e buffer h);
+  exactly = exactly (due-one (reg d) e) (event-due d e buffer h);
   unchanged = λ r. let device = refusals.event-unchanged d e r .0 in let lent = lent-unchanged d e buffer h r in λ i. (device i, lent i);
 }
 

@@ -30,6 +30,7 @@ use Rattle.device.specs.Write.{writeOf}
 use Rattle.device.specs.Read.{readOf, bufferAfter}
 use Rattle.device.specs.Sample.{sampleRows, sampleAnswer, sampleOf, cycleOf}
 use Rattle.device.specs.Clock.{clockOf}
+use Rattle.device.specs.Device.{reg}
 use Rattle.device.specs.declared.Device.{Device}
 use Rattle.events.specs.Event.{Event, powerUp, write, read, sample, cycle, clock, gives}
 use Rattle.events.specs.Run.{next}
@@ -40,9 +41,12 @@ use Rattle.benchlog.specs.Writer.{roomFor, writtenAs, written, placedAs, outAft
 use Rattle.benchlog.specs.declared.Room.{Room}
 use Rattle.benchlog.specs.declared.Room.the-variants as room
 use Rattle.benchlog.proofs.Exactly.{read-answers, version-answers, write-answers}
+use Rattle.paper.specs.Refused.{isReservedWrite, isDetectorWrite, isPowerModeWrite, isTestOrTrimWrite}
+use Rattle.paper.specs.Samples.{allInside}
+use Rattle.paper.proofs.Refused.{reserved-is, some-number, detector-is, power-mode-is, test-or-trim-is}
 use Rattle.outcomes.specs.Numbers.{AboveLast, ReservedWrite, DetectorWrite, PowerModeWrite, TestOrTrimWrite, LackingWrite, SomeOutside, WrongReadLength, PassesEnd}
-use Rattle.outcomes.specs.Numbers.{isReservedWrite, isDetectorWrite, isPowerModeWrite, isTestOrTrimWrite, answersTo, NothingElse}
-use Rattle.outcomes.proofs.Words.{Means, no, when, same-test, isnt, likewise, last, less, equal, and, or, reserved-is, last-row, some-number, detector-is, power-mode-is, test-or-trim-is, outside}
+use Rattle.outcomes.specs.Numbers.{answersTo, NothingElse}
+use Rattle.outcomes.proofs.Words.{Means, no, when, same-test, isnt, likewise, last, less, equal, and, or, last-row, is-false, some-outside}
 
 -- ---- exactly when the rows say
 -- the rows of a write have different numbers, and none is 0, whichever is the register's
@@ -83,12 +87,12 @@ sample-when d x y z t n = ways (sample-exactly d x y z t n)
 pub write-1 : (d : Device) (a byte : ℕ) → (number (writeOf d a byte .answer) ≡ 1) ↔ AboveLast a
 write-1 d a byte = when (write-exactly d a byte 1) (less 0x3F a)
 
-module _ (d : Device) (a byte : ℕ) (fits : byte < 256) where
+module _ (d : Device) (a byte : ℕ) where
   within : ¬ AboveLast a → a < 64
   within h = omega arith
 
-  is-reserved : ¬ AboveLast a → Means (reservedCode (d .regs) a byte) (ReservedWrite a byte)
-  is-reserved h = same-test (reserved-is (d .regs) a byte (within h) fits)
+  is-reserved : ¬ AboveLast a → Means (reservedCode (d .regs) a byte) (ReservedWrite (reg d) a byte)
+  is-reserved h = same-test (reserved-is (d .regs) a byte)
 
   abbrev lacking : Bool
   lacking = notModelled (d .regs) (rowAt a) a byte
@@ -98,44 +102,44 @@ module _ (d : Device) (a byte : ℕ) (fits : byte < 256) where
   numbered n = eqb n (number (lackAt a))
 
   is-detector : ¬ AboveLast a → Means (both (numbered 11) lacking) (DetectorWrite a byte)
-  is-detector h = same-test (detector-is (d .regs) a byte (within h) fits)
+  is-detector h = same-test (detector-is (d .regs) a byte (within h))
 
   is-power-mode : ¬ AboveLast a → Means (both (numbered 12) lacking) (PowerModeWrite a byte)
-  is-power-mode h = same-test (power-mode-is (d .regs) a byte (within h) fits)
+  is-power-mode h = same-test (power-mode-is (d .regs) a byte (within h))
 
   is-test-or-trim : ¬ AboveLast a → Means (both (numbered 13) lacking) (TestOrTrimWrite a byte)
-  is-test-or-trim h = same-test (test-or-trim-is (d .regs) a byte (within h) fits)
+  is-test-or-trim h = same-test (test-or-trim-is (d .regs) a byte (within h))
 
   is-lacking : ¬ AboveLast a → Means lacking (LackingWrite a byte)
   is-lacking h = likewise (some-number a lacking) (or (is-detector h) (or (is-power-mode h) (is-test-or-trim h)))
 
   -- in 3's place
   third : (n : ℕ) {P : Type 0} → (¬ AboveLast a → Means (both (numbered n) lacking) P) → ¬ AboveLast a
-      → Means (both (not (reservedCode (d .regs) a byte)) (pick (numbered n) lacking (both (not lacking) false))) (¬ ReservedWrite a byte × P)
+      → Means (both (not (reservedCode (d .regs) a byte)) (pick (numbered n) lacking (both (not lacking) false))) (¬ ReservedWrite (reg d) a byte × P)
   third n w h = and (isnt (is-reserved h)) (λ _. likewise (last-row (numbered n) lacking) (w h))
 
   zero-free : numbered 0 ≡ false
   zero-free = lack-any (λ x. eqb 0 (number x) ≡ false) refl refl refl a
 
-  pub write-0 : (number (writeOf d a byte .answer) ≡ 0) ↔ (¬ AboveLast a × (¬ ReservedWrite a byte × ¬ LackingWrite a byte))
+  pub write-0 : (number (writeOf d a byte .answer) ≡ 0) ↔ (¬ AboveLast a × (¬ ReservedWrite (reg d) a byte × ¬ LackingWrite a byte))
   write-0 = when (write-exactly d a byte 0) (and (isnt (less 0x3F a)) (λ h. and (isnt (is-reserved h)) (λ _. rw zero-free (last (isnt (is-lacking h))))))
 
-  pub write-2 : (number (writeOf d a byte .answer) ≡ 2) ↔ (¬ AboveLast a × ReservedWrite a byte)
+  pub write-2 : (number (writeOf d a byte .answer) ≡ 2) ↔ (¬ AboveLast a × ReservedWrite (reg d) a byte)
   write-2 = when (write-exactly d a byte 2) (and (isnt (less 0x3F a)) is-reserved)
 
-  pub write-11 : (number (writeOf d a byte .answer) ≡ 11) ↔ (¬ AboveLast a × (¬ ReservedWrite a byte × DetectorWrite a byte))
+  pub write-11 : (number (writeOf d a byte .answer) ≡ 11) ↔ (¬ AboveLast a × (¬ ReservedWrite (reg d) a byte × DetectorWrite a byte))
   write-11 = when (write-exactly d a byte 11) (and (isnt (less 0x3F a)) (third 11 is-detector))
 
-  pub write-12 : (number (writeOf d a byte .answer) ≡ 12) ↔ (¬ AboveLast a × (¬ ReservedWrite a byte × PowerModeWrite a byte))
+  pub write-12 : (number (writeOf d a byte .answer) ≡ 12) ↔ (¬ AboveLast a × (¬ ReservedWrite (reg d) a byte × PowerModeWrite a byte))
   write-12 = when (write-exactly d a byte 12) (and (isnt (less 0x3F a)) (third 12 is-power-mode))
 
-  pub write-13 : (number (writeOf d a byte .answer) ≡ 13) ↔ (¬ AboveLast a × (¬ ReservedWrite a byte × TestOrTrimWrite a byte))
+  pub write-13 : (number (writeOf d a byte .answer) ≡ 13) ↔ (¬ AboveLast a × (¬ ReservedWrite (reg d) a byte × TestOrTrimWrite a byte))
   write-13 = when (write-exactly d a byte 13) (and (isnt (less 0x3F a)) (third 13 is-test-or-trim))
 
--- Q-4: "14 is gone, and P10's first write gives 0", as every write of a byte to 0x21 does
-pub latch-0 : (d : Device) (byte : ℕ) → byte < 256 → number (writeOf d latchAt byte .answer) ≡ 0
+-- Q-4: "14 is gone, and P10's first write gives 0", as every write to 0x21 does
+pub latch-0 : (d : Device) (byte : ℕ) → number (writeOf d latchAt byte .answer) ≡ 0
 unfolding isReservedWrite isDetectorWrite isPowerModeWrite isTestOrTrimWrite
-latch-0 d byte fits = write-0 d latchAt byte fits .1 (λ above. omega arith, (no, ⊎-elim no (⊎-elim no no)))
+latch-0 d byte = write-0 d latchAt byte .1 (λ above. omega arith, (no, ⊎-elim no (⊎-elim no no)))
 
 -- "a read tests 1, 5, 6"
 module _ (d : Device) (a n : ℕ) where
@@ -160,7 +164,7 @@ module _ (d : Device) (a n : ℕ) where
 -- a sample tests 4
 module _ (d : Device) (x y z : ℤ) (t : ℕ) where
   is-outside : Means (either (not (inRange x)) (either (not (inRange y)) (not (inRange z)))) (SomeOutside x y z)
-  is-outside = or (outside x) (or (outside y) (outside z))
+  is-outside = likewise (some-outside x y z) (is-false (allInside x y z))
 
   pub sample-0 : (number (sampleOf d x y z t .answer) ≡ 0) ↔ (¬ SomeOutside x y z)
   sample-0 = when (sample-exactly d x y z t 0) (last (isnt is-outside))

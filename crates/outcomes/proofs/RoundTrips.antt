@@ -9,12 +9,11 @@ use borrow.Author.Tests.{le-ltb}
 use lib.ListN.{length, take, drop, length-append, take-append-drop}
 use lib.Seq.{length-take-le, take-at, take-append-seam, drop-at, drop-drop, drop-length}
 use Rattle.benchlog.specs.Format.{versionBytes}
-use Rattle.benchlog.specs.Reader.{whole, readAt, readVersion}
+use Rattle.benchlog.specs.Reader.{whole, readAt}
 use Rattle.benchlog.specs.Writer.{roomFor, placed, written, outAfter}
 use Rattle.benchlog.specs.Whole.{Bytes, FieldsFit, AllFieldsFit}
 use Rattle.benchlog.specs.declared.Entry.{Entry}
 use Rattle.benchlog.specs.declared.Room.the-variants.{Done}
-use Rattle.benchlog.specs.declared.Begins.the-variants.{Version}
 use Rattle.benchlog.specs.declared.Found.the-variants.{Record}
 use Rattle.benchlog.proofs.Places.{length-placed, twice}
 use Rattle.benchlog.proofs.Heads.{head-end, found-end, next-behind}

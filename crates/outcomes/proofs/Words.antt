@@ -2,27 +2,17 @@
 -- Assumes nothing.
 use Prim.Native.Nat.{ℕ, _<_}
 use mathlib.Core.Bool.{Bool, true, false, not}
-use mathlib.Core.List.{List}
 use mathlib.Core.Logic.{_↔_, _⊎_, inl, inr, ⊎-elim}
-use mathlib.Core.Path.{_≡_, refl, sym, subst, _∙_}
+use mathlib.Core.Path.{_≡_, refl, sym, _∙_}
 use native.Mathlib.Omega.{arith}
-use borrow.Author.Tests.{ltb-true, ltb-false, lt-ltb, le-ltb, eqb-true, eq-eqb}
-use lib.Dec.{T, eqb, ltb}
-use lib.IntN.{ℤ, pos, negsuc, negℤ}
-use lib.Signed.{ltZ, _<ℤ_, ltZ-yes}
-use Rattle.laws.specs.Bits.{bit}
+use borrow.Author.Tests.{ltb-true, lt-ltb, eqb-true, eq-eqb}
+use lib.Dec.{eqb, ltb}
+use lib.IntN.{ℤ}
 use Rattle.laws.specs.Choice.{pick, both, either}
-use Rattle.laws.specs.Table.{upFrom}
 use Rattle.laws.proofs.Refusals.{ways}
-use Rattle.laws.proofs.Finite.{alike}
 use Rattle.channels.specs.Codes.{inRange}
-use Rattle.codes.specs.Mode.{modeOf}
-use Rattle.codes.specs.Range.{rangeOf}
-use Rattle.registers.specs.Answers.{number}
-use Rattle.registers.specs.Refused.{reservedCode, notModelled, lackAt}
-use Rattle.registers.proofs.Answers.{lack-any}
-use Rattle.table.specs.Rows.{rowAt, theTable}
-use Rattle.outcomes.specs.Numbers.{isReservedWrite, isDetectorWrite, isPowerModeWrite, isTestOrTrimWrite, Outside}
+use Rattle.paper.specs.Samples.{isInside, allInside}
+use Rattle.paper.proofs.Samples.{inside-is}
 
 pub no : {X : Type 0} → false ≡ true → X
 no e = let z : _≡_ {A = ℕ} 0 1 = cc in absurd (omega arith)
@@ -96,62 +86,21 @@ otherwise {b = false} p q = let v = q (λ x. no (p .1 x)) in (λ e. inr (v .0 e)
 pub or : {b c : Bool} {P Q : Type 0} → Means b P → Means c Q → Means (either b c) (P ⊎ Q)
 or p q = otherwise p (λ _. q)
 
--- ---- 2 and 11 to 13: by computation, at each address and byte, whatever the registers hold
-everywhere : (f g : ℕ → ℕ → Bool) → upFrom (λ a. upFrom (f a) 0 256) 0 64 ≡ upFrom (λ a. upFrom (g a) 0 256) 0 64
-    → (a b : ℕ) → a < 64 → b < 256 → f a b ≡ g a b
-everywhere f g e a b h k = alike (f a) (g a) 256 (alike (λ c. upFrom (f c) 0 256) (λ c. upFrom (g c) 0 256) 64 e a h) b k
-
-pub reserved-is : (regs : List ℕ) (a b : ℕ) → a < 64 → b < 256 → reservedCode regs a b ≡ isReservedWrite a b
-unfolding reservedCode rangeOf modeOf isReservedWrite
-reserved-is regs = everywhere (reservedCode regs) isReservedWrite refl
-
 -- a last row of another number than 0, which has the number n where e says so
 pub last-row : (e t : Bool) → pick e t (both (not t) false) ≡ both e t
 last-row true t = refl
 last-row false true = refl
 last-row false false = refl
 
--- what is lacking has one of the three numbers
-abbrev oneOfThree : ℕ → Bool → Bool
-oneOfThree n t = either (both (eqb 11 n) t) (either (both (eqb 12 n) t) (both (eqb 13 n) t))
-
-pub some-number : (a : ℕ) (t : Bool) → t ≡ oneOfThree (number (lackAt a)) t
-some-number a true = lack-any (λ x. true ≡ oneOfThree (number x) true) refl refl refl a
-some-number a false = lack-any (λ x. false ≡ oneOfThree (number x) false) refl refl refl a
-
-module _ (regs : List ℕ) where
-  -- whether a setting of the register is not modelled and n is the number of what is lacking there
-  abbrev lackNumbered : ℕ → ℕ → ℕ → Bool
-  lackNumbered n a b = both (eqb n (number (lackAt a))) (notModelled regs (rowAt a) a b)
-
-  pub detector-is : (a b : ℕ) → a < 64 → b < 256 → lackNumbered 11 a b ≡ isDetectorWrite a b
-  unfolding notModelled lackAt theTable isDetectorWrite bit
-  detector-is = everywhere (lackNumbered 11) isDetectorWrite refl
-
-  pub power-mode-is : (a b : ℕ) → a < 64 → b < 256 → lackNumbered 12 a b ≡ isPowerModeWrite a b
-  unfolding notModelled lackAt theTable isPowerModeWrite bit
-  power-mode-is = everywhere (lackNumbered 12) isPowerModeWrite refl
-
-  pub test-or-trim-is : (a b : ℕ) → a < 64 → b < 256 → lackNumbered 13 a b ≡ isTestOrTrimWrite a b
-  unfolding notModelled lackAt theTable isTestOrTrimWrite bit
-  test-or-trim-is = everywhere (lackNumbered 13) isTestOrTrimWrite refl
-
 -- ---- 4
-above : (n : ℕ) (t : Bool) → ltb n 2048 ≡ t → not t ≡ ltb 2047 n
-above n true e = let h = ltb-true n 2048 e in sym (le-ltb 2047 n (omega arith))
-above n false e = sym (lt-ltb 2047 n (ltb-false n 2048 e))
+pub is-false : (t : Bool) → Means (not t) (t ≡ false)
+is-false true = (λ e. sym e, λ e. no (sym e))
+is-false false = (λ e. refl, λ e. refl)
 
-below : (t : Bool) → not (pick t false true) ≡ either t false
-below true = refl
-below false = refl
-
-ends : (z : ℤ) → not (inRange z) ≡ either (ltZ z (negℤ (pos 2048))) (ltZ (pos 2047) z)
-ends (pos n) = above n (ltb n 2048) refl
-ends (negsuc n) = below (ltb 2047 n)
-
-less-ints : (t : Bool) {a b : ℤ} → ltZ a b ≡ t → Means t (a <ℤ b)
-less-ints true e = (λ h. ltZ-yes (subst T (sym e) tt), λ h. refl)
-less-ints false e = (no, λ h. absurd (subst T e (h .lt)))
-
-pub outside : (z : ℤ) → Means (not (inRange z)) (Outside z)
-outside z = rw (ends z) (or (less-ints (ltZ z (negℤ (pos 2048))) refl) (less-ints (ltZ (pos 2047) z) refl))
+pub some-outside : (x y z : ℤ) → either (not (inRange x)) (either (not (inRange y)) (not (inRange z))) ≡ not (allInside x y z)
+some-outside x y z = rw (inside-is x, inside-is y, inside-is z) (go (isInside x) (isInside y) (isInside z))
+  where
+    go : (p q r : Bool) → either (not p) (either (not q) (not r)) ≡ not (both p (both q r))
+    go true true r = refl
+    go true false r = refl
+    go false q r = refl

@@ -5,6 +5,7 @@ use mathlib.Core.List.{List, [], _∷_, _++_}
 use mathlib.Core.Logic.{_↔_, _⊎_, _≢_}
 use mathlib.Core.Path.{_≡_}
 use lib.ListN.{length, getD, take, drop}
+use Rattle.device.specs.Device.{reg}
 use Rattle.device.specs.declared.Device.{Device}
 use Rattle.events.specs.Event.{Event, powerUp, write, read, sample, cycle, clock, gives, lentBy}
 use Rattle.events.specs.Run.{next}
@@ -27,20 +28,21 @@ _when_else_ k Holds behind n = ((n ≡ k) × Holds) ⊎ (¬ Holds × behind n)
 abbrev pub done : ℕ → Type 0
 done n = n ≡ 0
 
--- "A write tests 1, 2, 3; a read tests 1, 5, 6"; a sample tests 4. Q-1: in 3's place stand 11, 12 and 13. Nothing else tests anything
-abbrev pub Due : Event → ℕ → Type 0
-Due powerUp = done
-Due (write a byte) =
+-- "A write tests 1, 2, 3; a read tests 1, 5, 6"; a sample tests 4. Q-1: in 3's place stand 11, 12 and 13. Nothing else tests anything. held are
+-- the bytes that the addresses hold before the event
+abbrev pub Due : (ℕ → ℕ) → Event → ℕ → Type 0
+Due held powerUp = done
+Due held (write a byte) =
     1 when AboveLast a
-    else 2 when ReservedWrite a byte
+    else 2 when ReservedWrite held a byte
     else 11 when DetectorWrite a byte
     else 12 when PowerModeWrite a byte
     else 13 when TestOrTrimWrite a byte
     else done
-Due (read a n) = 1 when AboveLast a else 5 when WrongReadLength n else 6 when PassesEnd a n else done
-Due (sample x y z temperature) = 4 when SomeOutside x y z else done
-Due cycle = done
-Due (clock us) = done
+Due held (read a n) = 1 when AboveLast a else 5 when WrongReadLength n else 6 when PassesEnd a n else done
+Due held (sample x y z temperature) = 4 when SomeOutside x y z else done
+Due held cycle = done
+Due held (clock us) = done
 
 -- 7, "log version byte not 1"; 9, "log cut, or empty": what a log begins with
 abbrev pub DueAtStart : List ℕ → ℕ → Type 0
@@ -78,10 +80,10 @@ pub record Tabled (A : Type 0) (due : ℕ → Type 0) (number : ℕ) (before the
   -- Effect "none": "device, lent buffer and log unchanged"
   pub unchanged : number ≢ 0 → then ≡ before
 
--- what can be asked: what is written is a byte; "The read length is the length of the lent buffer itself, so the two cannot differ"
+-- what can be asked: "The read length is the length of the lent buffer itself, so the two cannot differ"
 abbrev pub Askable : Event → List ℕ → Type 0
 Askable powerUp buffer = Unit {0}
-Askable (write a byte) buffer = byte < 256
+Askable (write a byte) buffer = Unit {0}
 Askable (read a n) buffer = length buffer ≡ n
 Askable (sample x y z temperature) buffer = Unit {0}
 Askable cycle buffer = Unit {0}
@@ -91,7 +93,7 @@ Askable (clock us) buffer = Unit {0}
 pub record Demand1 : Type 0 where
   -- an event, of any device, also one that no events lead to, and with any buffer: number, device and buffer
   pub event : (d : Device) (e : Event) (buffer : List ℕ) → Askable e buffer
-      → Tabled (Device × List ℕ) (Due e) (gives d e .number) (d, buffer) (next d e, lentBy d e buffer)
+      → Tabled (Device × List ℕ) (Due (reg d) e) (gives d e .number) (d, buffer) (next d e, lentBy d e buffer)
   -- a refused event gives no bytes. One that is done leaves in the buffer, where it is a read, the bytes that it gives
   pub no-bytes : (d : Device) (e : Event) → gives d e .number ≢ 0 → gives d e .bytes ≡ []
   pub filled : (d : Device) (e : Event) (buffer : List ℕ) → Askable e buffer → gives d e .number ≡ 0
