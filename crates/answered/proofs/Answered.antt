@@ -1,12 +1,10 @@
 -- What the answer prints as the range is what 01 gives the byte which the events leave at 0x0F, in every line and after any record of a log.
 -- Assumes nothing.
-use Prim.Native.Nat.{ℕ, suc, _%_}
+use Prim.Native.Nat.{ℕ, suc}
 use mathlib.Core.Bool.{Bool, true, false}
 use mathlib.Core.List.{List, [], _∷_, _++_}
-use mathlib.Core.Path.{_≡_, refl, ap, _∙_, subst}
-use native.Mathlib.Omega.{arith}
+use mathlib.Core.Path.{_≡_, refl, ap, _∙_}
 use lib.ListN.{length, drop}
-use Rattle.codes.specs.Addresses.{rangeAt}
 use Rattle.codes.specs.Range.{isReservedRange}
 use Rattle.codes.specs.declared.Range.{Range}
 use Rattle.codes.specs.declared.Range.the-variants.{G2, G4, G8, G16, Reserved}
@@ -16,9 +14,8 @@ use Rattle.counts.specs.Counts.{inG}
 use Rattle.counts.specs.declared.Account.{Account}
 use Rattle.spelling.specs.Spelling.{spaced, gText, modeText, doubtText, countText, columnsThen}
 use Rattle.spelling.proofs.Spelling.{stretch-spelt, in-force-spelt}
-use Rattle.events.specs.Bank.{stored}
 use Rattle.recorded.specs.Recorded.{Recorded, eventsOf}
-use Rattle.paper.proofs.Stored.{stored-is}
+use Rattle.paper.specs.Stored.{byteBy}
 use Rattle.stretches.specs.Histories.{accountOf, Stretch, Between, Each}
 use Rattle.stretches.proofs.Ranges.{range-known}
 use Rattle.told.specs.Histories.{recordsOnto}
@@ -42,8 +39,7 @@ word-is Reserved k = cc
 
 module _ (rs : List Recorded) where
   account-means : MeansG (codeBy (eventsOf rs)) (inG (accountOf rs .range))
-  account-means =
-      subst (λ n. MeansG (n % 16) (inG (accountOf rs .range))) (stored-is (eventsOf rs) 0x0F (omega arith)) (range-means (stored (eventsOf rs) rangeAt))
+  account-means = range-means (byteBy (eventsOf rs) 0x0F)
 
   said : (g : ℕ) → inG (accountOf rs .range) ≡ g → gText (accountOf rs .range) ≡ in-words g
   said g is = word-is (accountOf rs .range) (range-known rs) ∙ ap in-words is

@@ -13,7 +13,7 @@ use Rattle.counts.specs.Counts.{sum}
 use Rattle.counts.specs.declared.Doubt.{Doubt}
 use Rattle.wording.specs.Wording.{rangeLine}
 use Rattle.spelling.specs.Spelling.{spaced, doubtText, because, fromThen}
-use Rattle.stretches.specs.Histories.{accountOf, doubtOf, noRange, Stretch, Part, Each}
+use Rattle.stretches.specs.Histories.{accountOf, doubtOf, Stretch, Part, Each}
 use Rattle.told.specs.Plain.{printedStretches, seenAt, lineOf}
 use Rattle.ranges.specs.Ranges.{IsOther}
 
@@ -31,7 +31,7 @@ pub record SaysRange (es : List Event) (word : List ℕ) : Type 0 where
 
 -- whether it is in doubt
 abbrev pub doubtBy : List Recorded → Doubt
-doubtBy rs = doubtOf 0x0F noRange rs
+doubtBy rs = doubtOf 0x0F rs
 
 -- "FROM TO RANGE ..": the third column of a stretch's line, "before its last record acts", with its mode or without
 pub record ThirdColumn (moded : Bool) (s : Stretch) : Type 0 where

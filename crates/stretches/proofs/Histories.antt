@@ -11,29 +11,31 @@ use lib.Dec.{eqb}
 use lib.ListN.{length, getD}
 use borrow.Author.Tests.{eqb-true, eqb-false}
 use Rattle.laws.specs.Bits.{worth}
-use Rattle.laws.specs.Choice.{pick, both, either}
+use Rattle.laws.specs.Choice.{pick, both}
 use Rattle.codes.specs.Addresses.{rangeAt, framesAt, controlAt}
 use Rattle.codes.specs.Axes.{axesOf}
 use Rattle.codes.specs.Mode.{modeOf}
-use Rattle.codes.specs.Range.{rangeOf, isReservedRange}
-use Rattle.table.specs.Rows.{theTable}
+use Rattle.codes.specs.Range.{rangeOf}
 use Rattle.fifo.specs.Flat.{Flat, packed}
 use Rattle.fifo.specs.Ledger.{heldOf}
 use Rattle.fifo.specs.Store.{countIn}
 use Rattle.fifo.specs.declared.Setting.{Setting}
 use Rattle.registers.specs.Answers.{accepted}
 use Rattle.registers.specs.Deeds.{judgement}
-use Rattle.paper.specs.Stored.{isSoftReset, byteBy}
+use Rattle.paper.specs.Computed.{thePaper}
+use Rattle.paper.specs.Stored.{byteBy, isAccepted}
+use Rattle.paper.specs.Samples.{allInside}
+use Rattle.paper.specs.Readouts.{readsOut, clearsFifo}
+use Rattle.paper.proofs.Stored.{stored-is, accepted-is}
+use Rattle.paper.proofs.Samples.{sample-is}
+use Rattle.paper.proofs.Readouts.{readout-is}
 use Rattle.registers.specs.Refused.{readAnswer, writeAnswer}
 use Rattle.registers.specs.declared.Answer.{Answer}
-use Rattle.registers.proofs.Verdicts.{range-accepted, control-accepted}
 use Rattle.device.specs.Clock.{clockOf}
-use Rattle.device.specs.Device.{firstBytes}
 use Rattle.device.specs.Read.{readOf}
 use Rattle.device.specs.Sample.{sampleOf}
 use Rattle.device.specs.Show.{heldIn, rangeIn, modeIn}
 use Rattle.device.specs.Write.{writeOf}
-use Rattle.events.specs.Bank.{stored, bank}
 use Rattle.events.specs.Event.{Event, powerUp, write, read, sample, cycle, clock, happens}
 use Rattle.events.specs.Run.{after}
 use Rattle.events.specs.Views.{atRead}
@@ -41,15 +43,9 @@ use Rattle.events.proofs.Runs.{bank-is}
 use Rattle.demand3.specs.Chip.{Said, cleared, sampled, readOut, nothing, since}
 use Rattle.demand3.specs.Counts.{begun, heldAfter}
 use Rattle.demand3.specs.Demand.{fates}
-use Rattle.paper.specs.Computed.{thePaper}
-use Rattle.paper.specs.Samples.{allInside}
-use Rattle.paper.specs.Readouts.{readsOut, clearsFifo}
-use Rattle.paper.proofs.Samples.{sample-is}
-use Rattle.paper.proofs.Readouts.{readout-is}
 use Rattle.history.specs.History.{accelerometer, control, frame, setting, saysHere}
 use Rattle.demand3.specs.Whole.{Totals, totalled, heldNow, totals}
 use Rattle.history.proofs.Conserve.{demand3, over-clears-here, device-holds, lawful}
-use Rattle.history.proofs.Holds.{holds-after}
 use Rattle.demand3.proofs.Whole.{few, next-totals, next-held}
 use Rattle.recorded.specs.Recorded.{Recorded, eventsOf, beforeOwn, answerTo}
 use Rattle.recorded.proofs.Recorded.{events-append, till-own}
@@ -60,7 +56,7 @@ use Rattle.counts.specs.declared.Why.the-variants as why
 use Rattle.counts.specs.Counts as counts
 use Rattle.counts.specs.Counts.{sum, less, differences, left, arrived, firstAccount}
 use Rattle.account.specs.Account.{refusedBy, readoutsBy, countsAfter, whyOf, whyOfWrite, whyOfRead, doubtAfter, doubtsBehind, accountAfter}
-use Rattle.stretches.specs.Histories.{refusals, readoutsIn, countsOf, doubtBehind, doubtOf, noRange, noMode, doubtsOf, accountOf, stepped, whyAt, isOf, Conserved, Grown, apart}
+use Rattle.stretches.specs.Histories.{refusals, readoutsIn, countsOf, doubtBehind, doubtOf, doubtsOf, accountOf, stepped, whyAt, Conserved, Grown, apart}
 
 -- ---- what the device says
 -- the frames that it holds are those of the ledger
@@ -70,33 +66,29 @@ held-is es =
     let many : after es .fifo .count ≡ length (heldOf (fates accelerometer es)) = ap (λ (f : Flat). f .count) (device-holds es) in
     omega (arith, many, demand3 es .few, over-clears-here es .held)
 
--- its range is by the byte that 0x0F stores
-pub range-is : (es : List Event) → rangeIn (after es) ≡ rangeOf (stored es rangeAt)
-range-is es = ap (λ (regs : List ℕ). rangeOf (getD regs rangeAt 0)) (bank-is es)
+-- the byte at an address is the one that it stores
+stored-in : (es : List Event) (a : ℕ) → a < 64 → getD (after es .regs) a 0 ≡ byteBy es a
+stored-in es a h = ap (λ (regs : List ℕ). getD regs a 0) (bank-is es) ∙ stored-is es a h
 
--- its mode is by the byte of 0x3E since the last clear
-pub mode-is : (es : List Event) → modeIn (after es) ≡ modeOf (control es)
-mode-is es = ap modeOf (holds-after es .control)
+-- its range is by the byte of 0x0F, and its mode by that of 0x3E
+pub range-is : (es : List Event) → rangeIn (after es) ≡ rangeOf (byteBy es rangeAt)
+range-is es = ap rangeOf (stored-in es rangeAt (omega arith))
+
+pub mode-is : (es : List Event) → modeIn (after es) ≡ modeOf (byteBy es controlAt)
+mode-is es = ap modeOf (stored-in es controlAt (omega arith))
+
+-- it accepts a write where the paper does
+write-is : (es : List Event) (a byte : ℕ) → accepted (writeAnswer (after es .regs) a byte) ≡ isAccepted es a byte
+write-is es a byte = ap (λ (regs : List ℕ). accepted (writeAnswer regs a byte)) (bank-is es) ∙ accepted-is es a byte
 
 -- ---- why a stretch ends
--- a write to 0x0F is refused exactly where its code is reserved, whatever the registers hold
-range-why : (regs : List ℕ) (a byte : ℕ) → whyOfWrite a byte (writeAnswer regs a byte) ≡ whyAt (write a byte)
+range-why : (es : List Event) (a byte : ℕ) → whyOfWrite a byte (writeAnswer (after es .regs) a byte) ≡ whyAt es (write a byte)
 unfolding whyOfWrite whyAt
-range-why regs a byte = go (eqb a rangeAt) refl
-  where
-    turned : (t : Bool) → pick (not t) why.Range why.Refused ≡ pick t why.Refused why.Range
-    turned true = refl
-    turned false = refl
+range-why es a byte = rw (write-is es a byte)
 
-    go : (t : Bool) → eqb a rangeAt ≡ t
-        → pick (isSoftReset a byte) why.Reset (pick t (pick (accepted (writeAnswer regs a byte)) why.Range why.Refused) why.Nothing)
-        ≡ pick (isSoftReset a byte) why.Reset (pick t (pick (isReservedRange (rangeOf byte)) why.Refused why.Range) why.Nothing)
-    go true e = rw (eqb-true a rangeAt e, range-accepted regs byte, turned)
-    go false e = refl
-
-read-why : (a n : ℕ) → whyOfRead a (readAnswer a n) ≡ whyAt (read a n)
+read-why : (es : List Event) (a n : ℕ) → whyOfRead a (readAnswer a n) ≡ whyAt es (read a n)
 unfolding whyOfRead whyAt
-read-why a n = rw (← readout-is a n) (go (eqb a framesAt) (accepted (readAnswer a n)))
+read-why es a n = rw (← readout-is a n) (go (eqb a framesAt) (accepted (readAnswer a n)))
   where
     go : (t s : Bool) → pick t (pick s why.Readout why.Nothing) why.Nothing ≡ pick (both s t) why.Readout why.Nothing
     go true true = refl
@@ -104,11 +96,11 @@ read-why a n = rw (← readout-is a n) (go (eqb a framesAt) (accepted (readAnswe
     go false true = refl
     go false false = refl
 
-pub why-is : (es : List Event) (e : Event) → whyOf e (happens (after es) e .answer) ≡ whyAt e
+pub why-is : (es : List Event) (e : Event) → whyOf e (happens (after es) e .answer) ≡ whyAt es e
 unfolding whyAt writeOf judgement readOf
 why-is es powerUp = refl
-why-is es (write a byte) = range-why (after es .regs) a byte
-why-is es (read a n) = read-why a n
+why-is es (write a byte) = range-why es a byte
+why-is es (read a n) = read-why es a n
 why-is es (sample x y z temperature) = refl
 why-is es cycle = refl
 why-is es (clock us) = refl
@@ -123,9 +115,9 @@ module _ (r : Recorded) (rs : List Recorded) where
   unfolding since saysHere byteBy
   held-wait = till-own (heldNow accelerometer) (λ us es. refl) r rs
 
-  pub control-wait : control (beforeOwn r rs) ≡ control (eventsOf rs)
+  pub byte-wait : (a : ℕ) → byteBy (beforeOwn r rs) a ≡ byteBy (eventsOf rs) a
   unfolding byteBy
-  control-wait = till-own control (λ us es. refl) r rs
+  byte-wait a = till-own (λ es. byteBy es a) (λ us es. refl) r rs
 
 -- ---- how large the counts can be
 one-more : (s : Setting) (many : ℕ) (w : Said) (n : Totals) → totalled s many w n .accepted ≤ suc (n .accepted)
@@ -332,7 +324,7 @@ Counted es e = countsAfter (countsOf es) e (happens (after es) e .answer) (heldN
 -- a readout counts as one, and no other read does
 readouts-next : (es : List Event) (a n : ℕ) → readoutsIn (read a n ∷ es) ≡ readoutsIn es + readoutsBy a (readAnswer a n)
 unfolding readoutsIn
-readouts-next es a n = omega (arith, ap (worth 1) (sym (readout-is a n)) ∙ go (eqb a framesAt) (accepted (readAnswer a n)))
+readouts-next es a n = omega (arith, ap (worth 1) (sym (readout-is a n)), go (eqb a framesAt) (accepted (readAnswer a n)))
   where
     go : (s t : Bool) → worth 1 (both t s) ≡ pick (both s t) 1 0
     go true true = refl
@@ -365,58 +357,32 @@ counts-next es (clock us) few room = same-counts es (clock us) few room refl ref
 number-next : (n : ℕ) → suc n < 2 ^ 64 → sum n 1 ≡ suc n
 number-next n room = sum-is n 1 (omega arith) ∙ omega arith
 
--- a write to a register whose undefined codes are what is refused there, whatever the registers hold
-module _ (about : ℕ) (undefined : ℕ → Bool) (refuses : (regs : List ℕ) (byte : ℕ) → accepted (writeAnswer regs about byte) ≡ not (undefined byte)) where
-  doubt-written : (before : Doubt) (number : ℕ) (regs : List ℕ) (a byte : ℕ)
-      → doubtAfter before about a byte (writeAnswer regs a byte) number ≡ doubtBehind about undefined before number (write a byte)
-  unfolding doubtAfter
-  doubt-written before number regs a byte = go (eqb a about) refl
-    where
-      turned : (t : Bool) → pick (not t) No (By byte number) ≡ pick t (By byte number) No
-      turned true = refl
-      turned false = refl
+-- behind a write, of what any register sets
+doubt-written : (about : ℕ) (before : Doubt) (number : ℕ) (es : List Event) (a byte : ℕ)
+    → doubtAfter before about a byte (writeAnswer (after es .regs) a byte) number ≡ doubtBehind about before number es (write a byte)
+unfolding doubtAfter
+doubt-written about before number es a byte = rw (write-is es a byte)
 
-      go : (t : Bool) → eqb a about ≡ t
-          → pick (isSoftReset a byte) No (pick t (pick (accepted (writeAnswer regs a byte)) No (By byte number)) before)
-          ≡ pick (isSoftReset a byte) No (pick t (pick (undefined byte) (By byte number) No) before)
-      go true e = rw (eqb-true a about e, refuses regs byte, turned)
-      go false e = refl
-
--- behind an event that is the own one of a record
+-- and behind any event
 abbrev Doubted : List Recorded → ℕ → List Event → Event → Type 0
 Doubted rs number es e = doubtsBehind (doubtsOf rs) e (happens (after es) e .answer) number
-    ≡ record { range = doubtBehind rangeAt noRange (doubtsOf rs .range) number e; mode = doubtBehind controlAt noMode (doubtsOf rs .mode) number e }
+    ≡ record { range = doubtBehind rangeAt (doubtsOf rs .range) number es e; mode = doubtBehind controlAt (doubtsOf rs .mode) number es e }
 
 doubts-next : (rs : List Recorded) (number : ℕ) (es : List Event) (e : Event) → Doubted rs number es e
 unfolding writeOf judgement
 doubts-next rs number es powerUp = refl
 doubts-next rs number es (write a byte) = λ i. record {
-  range = doubt-written rangeAt noRange range-accepted (doubtsOf rs .range) number (after es .regs) a byte i;
-  mode = doubt-written controlAt noMode control-accepted (doubtsOf rs .mode) number (after es .regs) a byte i;
+  range = doubt-written rangeAt (doubtsOf rs .range) number es a byte i;
+  mode = doubt-written controlAt (doubtsOf rs .mode) number es a byte i;
 }
 doubts-next rs number es (read a n) = refl
 doubts-next rs number es (sample x y z temperature) = refl
 doubts-next rs number es cycle = refl
 doubts-next rs number es (clock us) = refl
 
--- what has nothing to do with a register leaves what is doubted of it as it is
-pub doubt-kept : (about : ℕ) (undefined : ℕ → Bool) (before : Doubt) (number : ℕ) (e : Event) → isOf about e ≡ false
-    → doubtBehind about undefined before number e ≡ before
-doubt-kept about undefined before number powerUp h = cc
-doubt-kept about undefined before number (write a byte) h = go (isSoftReset a byte) (eqb a about) h
-  where
-    go : (r s : Bool) → either r s ≡ false → pick r No (pick s (pick (undefined byte) (By byte number) No) before) ≡ before
-    go true s h = cc
-    go false true h = cc
-    go false false h = refl
-doubt-kept about undefined before number (read a n) h = refl
-doubt-kept about undefined before number (sample x y z temperature) h = refl
-doubt-kept about undefined before number cycle h = refl
-doubt-kept about undefined before number (clock us) h = refl
-
 -- ---- the account
 pub account-first : firstAccount ≡ accountOf []
-unfolding totals refusals readoutsIn doubtOf bank firstBytes theTable thePaper rangeOf modeOf heldAfter since
+unfolding totals refusals readoutsIn doubtOf thePaper rangeOf modeOf heldAfter since
 account-first = refl
 
 -- one record more: the account is stepped by its own event, the answer, and the range, the mode and the frames held behind it

@@ -11,6 +11,7 @@ use lib.ListN.{length, length-append, getElem?}
 use borrow.Author.Tests.{eqb-true}
 use Rattle.laws.specs.Bits.{worth}
 use Rattle.laws.specs.Choice.{pick}
+use Rattle.codes.specs.Addresses.{controlAt}
 use Rattle.codes.specs.Mode.{modeOf, isReservedMode}
 use Rattle.codes.specs.declared.Mode.{Mode}
 use Rattle.codes.specs.declared.Mode.the-variants.{Bypass, Fifo, Stream, Reserved}
@@ -20,6 +21,7 @@ use Rattle.fifo.specs.declared.Drop.{Drop}
 use Rattle.fifo.specs.declared.Drop.the-variants.{Newcomer, Oldest}
 use Rattle.device.specs.Device.{depth}
 use Rattle.events.specs.Event.{Event}
+use Rattle.paper.specs.Stored.{byteBy}
 use Rattle.demand3.specs.Chip.{sampled, since}
 use Rattle.demand3.specs.Demand.{fates}
 use Rattle.history.specs.History.{accelerometer, control, setting, saysHere}
@@ -93,7 +95,7 @@ module _ (es : List Event) (e : Event) (f : List ℕ) (says : saysHere es e ≡ 
       go false q = let none : countsOf (e ∷ es) .lost ≡ countsOf es .lost + 0 = next ∙ rw q in absurd (omega (arith, one, none))
 
   -- "Mark the samples that were lost": the sample of the line's BACK was held, and the arrival lost it
-  pub lost-sample : LostAt f (fates accelerometer es) (fates accelerometer (e ∷ es)) (droppedBack (modeOf (control es)) (heldNow accelerometer es))
+  pub lost-sample : LostAt f (fates accelerometer es) (fates accelerometer (e ∷ es)) (droppedBack (modeOf (byteBy es controlAt)) (heldNow accelerometer es))
   lost-sample =
       let m = modeOf (control es) in
       rw (← back-is m (heldNow accelerometer es) (holds-after es .mode) full, arrived-is)

@@ -10,10 +10,9 @@ use lib.Dec.{eqb}
 use lib.ListN.{length, length-append}
 use Rattle.laws.specs.Choice.{pick, either}
 use Rattle.codes.specs.Addresses.{rangeAt}
-use Rattle.codes.specs.Range.{rangeOf, isReservedRange}
-use Rattle.paper.specs.Stored.{isSoftReset}
-use Rattle.events.specs.Event.{Event, powerUp, write, read, sample, cycle, clock}
+use Rattle.paper.specs.Stored.{isSoftReset, isAccepted}
 use Rattle.paper.specs.Readouts.{readsOut}
+use Rattle.events.specs.Event.{Event, powerUp, write, read, sample, cycle, clock}
 use Rattle.recorded.specs.Recorded.{Recorded, eventsOf}
 use Rattle.counts.specs.declared.Why.the-variants as why
 use Rattle.counts.specs.Counts.{differences, ends}
@@ -21,31 +20,31 @@ use Rattle.stretches.specs.Histories.{countsOf, accountOf, whyAt, isEnd,
 use Rattle.stretches.proofs.Histories.{grows, conserved, differences-are}
 
 -- ---- what ends them
-pub ends-is : (e : Event) → ends (whyAt e) ≡ isEnd e
+pub ends-is : (es : List Event) (e : Event) → ends (whyAt es e) ≡ isEnd e
 unfolding whyAt
-ends-is powerUp = refl
-ends-is (write a byte) = go (isSoftReset a byte) (eqb a rangeAt) (isReservedRange (rangeOf byte))
+ends-is es powerUp = refl
+ends-is es (write a byte) = go (isSoftReset a byte) (eqb a rangeAt) (isAccepted es a byte)
   where
-    go : (r s t : Bool) → ends (pick r why.Reset (pick s (pick t why.Refused why.Range) why.Nothing)) ≡ either r s
+    go : (r s t : Bool) → ends (pick r why.Reset (pick s (pick t why.Range why.Refused) why.Nothing)) ≡ either r s
     go true s t = refl
     go false true true = refl
     go false true false = refl
     go false false t = refl
-ends-is (read a n) = go (readsOut a n)
+ends-is es (read a n) = go (readsOut a n)
   where
     go : (t : Bool) → ends (pick t why.Readout why.Nothing) ≡ either t false
     go true = refl
     go false = refl
-ends-is (sample x y z temperature) = refl
-ends-is cycle = refl
-ends-is (clock us) = refl
+ends-is es (sample x y z temperature) = refl
+ends-is es cycle = refl
+ends-is es (clock us) = refl
 
 -- ---- where they lie
 -- what a stretch begins with is a part of what it ends with
 pub lastEnd-part : (rs : List Recorded) → Part (lastEnd rs) rs
 unfolding lastEnd
 lastEnd-part [] = ([], refl)
-lastEnd-part (r ∷ rs) = go (ends (whyAt (r .own))) (lastEnd-part rs)
+lastEnd-part (r ∷ rs) = go (isEnd (r .own)) (lastEnd-part rs)
   where
     go : (t : Bool) → Part (lastEnd rs) rs → Part (pick t (r ∷ rs) (lastEnd rs)) (r ∷ rs)
     go true p = ([], refl)
@@ -55,7 +54,7 @@ lastEnd-part (r ∷ rs) = go (ends (whyAt (r .own))) (lastEnd-part rs)
 pub stretches-lead : (rs : List Recorded) → Between [] (stretches rs) (lastEnd rs)
 unfolding stretches lastEnd
 stretches-lead [] = refl
-stretches-lead (r ∷ rs) = go (ends (whyAt (r .own))) (lastEnd-part rs) (stretches-lead rs)
+stretches-lead (r ∷ rs) = go (isEnd (r .own)) (lastEnd-part rs) (stretches-lead rs)
   where
     go : (t : Bool) → Part (lastEnd rs) rs → Between [] (stretches rs) (lastEnd rs)
         → Between [] (pick t (endingWith r rs ∷ stretches rs) (stretches rs)) (pick t (r ∷ rs) (lastEnd rs))

@@ -10,20 +10,19 @@ use lib.ListN.{length, getElem?}
 use Rattle.laws.specs.Bits.{worth}
 use Rattle.laws.specs.Choice.{pick, either}
 use Rattle.codes.specs.Addresses.{rangeAt, controlAt}
-use Rattle.codes.specs.Mode.{modeOf, isReservedMode}
-use Rattle.codes.specs.Range.{rangeOf, isReservedRange}
+use Rattle.codes.specs.Mode.{modeOf}
+use Rattle.codes.specs.Range.{rangeOf}
 use Rattle.registers.specs.Answers.{accepted}
 use Rattle.device.specs.Show.{heldIn, rangeIn, modeIn}
-use Rattle.events.specs.Bank.{stored}
-use Rattle.events.specs.Event.{Event, powerUp, write, read, sample, cycle, clock, happens}
+use Rattle.events.specs.Event.{Event, happens}
 use Rattle.events.specs.Run.{after}
-use Rattle.events.specs.Views.{isPowerUp, atWrite, atRead}
-use Rattle.paper.specs.Stored.{isSoftReset}
-use Rattle.fifo.specs.Ledger.{Fate, held, lost}
+use Rattle.events.specs.Views.{atWrite, atRead}
+use Rattle.paper.specs.Stored.{startsAnew, byteBy, isAccepted}
 use Rattle.paper.specs.Readouts.{readsOut}
-use Rattle.history.specs.History.{accelerometer, control}
+use Rattle.fifo.specs.Ledger.{Fate, held, lost}
+use Rattle.history.specs.History.{accelerometer}
 use Rattle.demand3.specs.Whole.{heldNow, totals}
-use Rattle.recorded.specs.Recorded.{Recorded, eventsOf, answerTo}
+use Rattle.recorded.specs.Recorded.{Recorded, eventsOf, beforeOwn, answerTo}
 use Rattle.counts.specs.declared.Account.{Account}
 use Rattle.counts.specs.declared.Counts.{Counts}
 use Rattle.counts.specs.declared.Doubt.{Doubt}
@@ -31,12 +30,8 @@ use Rattle.counts.specs.declared.Doubt.the-variants.{No, By}
 use Rattle.counts.specs.declared.Doubts.{Doubts}
 use Rattle.counts.specs.declared.Why.{Why}
 use Rattle.counts.specs.declared.Why.the-variants as why
-use Rattle.counts.specs.Counts.{ends, firstAccount}
+use Rattle.counts.specs.Counts.{firstAccount}
 use Rattle.account.specs.Account.{accountAfter}
-
--- "since power-up or soft reset"
-abbrev pub startsAnew : Event → Bool
-startsAnew e = either (isPowerUp e) (atWrite false isSoftReset e)
 
 -- how many events the device refused
 unfoldable pub refusals : List Event → ℕ
@@ -61,29 +56,22 @@ countsOf es =
       readouts = readoutsIn es;
     }
 
--- what the register at an address sets is in doubt while the last write to it since power-up or soft reset was a refused one, of a code
--- that the sheet does not define: the number of that record, and its byte
-abbrev pub doubtBehind : ℕ → (ℕ → Bool) → Doubt → ℕ → Event → Doubt
-doubtBehind about undefined before number e =
+-- what the register at an address sets is in doubt while the last write to it since power-up or soft reset was a refused one: the byte of
+-- that write, and the number of its record. es came before the event
+abbrev pub doubtBehind : ℕ → Doubt → ℕ → List Event → Event → Doubt
+doubtBehind about before number es e =
     pick (startsAnew e) No
-    (atWrite before (λ a byte. pick (eqb a about) (pick (undefined byte) (By byte number) No) before) e)
+    (atWrite before (λ a byte. pick (eqb a about) (pick (isAccepted es a byte) No (By byte number)) before) e)
 
-unfoldable pub doubtOf : ℕ → (ℕ → Bool) → List Recorded → Doubt
-doubtOf about undefined [] = No
-doubtOf about undefined (r ∷ rs) = doubtBehind about undefined (doubtOf about undefined rs) (suc (length rs)) (r .own)
+unfoldable pub doubtOf : ℕ → List Recorded → Doubt
+doubtOf about [] = No
+doubtOf about (r ∷ rs) = doubtBehind about (doubtOf about rs) (suc (length rs)) (beforeOwn r rs) (r .own)
 
--- of the range, at 0x0F: "every other low nibble is refused 2"; of the mode, at 0x3E: "11 is refused 2"
-abbrev pub noRange : ℕ → Bool
-noRange byte = isReservedRange (rangeOf byte)
-
-abbrev pub noMode : ℕ → Bool
-noMode byte = isReservedMode (modeOf byte)
-
+-- of the range, by 0x0F, and of the mode, by 0x3E
 abbrev pub doubtsOf : List Recorded → Doubts
-doubtsOf rs = record { range = doubtOf rangeAt noRange rs; mode = doubtOf controlAt noMode rs }
+doubtsOf rs = record { range = doubtOf rangeAt rs; mode = doubtOf controlAt rs }
 
--- what is known after a history: the range is by the byte that 0x0F stores, the mode by that of 0x3E since the last clear, and the frames
--- held are the ledger's
+-- what is known after a history: the range is by the byte that 0x0F stores, the mode by that of 0x3E, and the frames held are the ledger's
 abbrev pub accountOf : List Recorded → Account
 accountOf rs =
     let es = eventsOf rs in
@@ -91,8 +79,8 @@ accountOf rs =
       number = length rs;
       counts = countsOf es;
       doubts = doubtsOf rs;
-      range = rangeOf (stored es rangeAt);
-      mode = modeOf (control es);
+      range = rangeOf (byteBy es rangeAt);
+      mode = modeOf (byteBy es controlAt);
       held = heldNow accelerometer es;
     }
 
@@ -103,15 +91,17 @@ stepped (r ∷ rs) =
     let behind = after (eventsOf (r ∷ rs)) in
     accountAfter (stepped rs) (r .own) (answerTo r rs) (rangeIn behind) (modeIn behind) (heldIn behind)
 
--- why a stretch ends with an event: "a readout: an accepted read at 0x3F; a write to 0x0F, accepted or refused; a soft reset"
-unfoldable pub whyAt : Event → Why
-whyAt powerUp = why.Reset
-whyAt (write a byte) =
-    pick (isSoftReset a byte) why.Reset (pick (eqb a rangeAt) (pick (isReservedRange (rangeOf byte)) why.Refused why.Range) why.Nothing)
-whyAt (read a n) = pick (readsOut a n) why.Readout why.Nothing
-whyAt (sample x y z temperature) = why.Nothing
-whyAt cycle = why.Nothing
-whyAt (clock us) = why.Nothing
+-- why a stretch ends with an event that es came before: "a readout: an accepted read at 0x3F; a write to 0x0F, accepted or refused; a soft
+-- reset"
+unfoldable pub whyAt : List Event → Event → Why
+whyAt es e =
+    pick (startsAnew e) why.Reset
+    (pick (atRead false readsOut e) why.Readout
+    (atWrite why.Nothing (λ a byte. pick (eqb a rangeAt) (pick (isAccepted es a byte) why.Range why.Refused) why.Nothing) e))
+
+-- and with a record
+abbrev pub whyWith : Recorded → List Recorded → Why
+whyWith r rs = whyAt (beforeOwn r rs) (r .own)
 
 -- what has to do with what the register at an address sets: a write to it, accepted or refused; power-up and a soft reset
 abbrev pub isOf : ℕ → Event → Bool
@@ -130,7 +120,7 @@ isEnd e = either (atRead false readsOut e) (isOfRange e)
 -- the history at the end of the last stretch that has ended: that of power-up where none has
 unfoldable pub lastEnd : List Recorded → List Recorded
 lastEnd [] = []
-lastEnd (r ∷ rs) = pick (ends (whyAt (r .own))) (r ∷ rs) (lastEnd rs)
+lastEnd (r ∷ rs) = pick (isEnd (r .own)) (r ∷ rs) (lastEnd rs)
 
 -- ---- stretches
 -- a stretch, by the histories at its beginning and at its end, and why it ended
@@ -141,12 +131,12 @@ pub record Stretch : Type 0 where
 
 -- the one that ends with a record, where one does
 abbrev pub endingWith : Recorded → List Recorded → Stretch
-endingWith r rs = record { from = lastEnd rs; to = r ∷ rs; why = whyAt (r .own) }
+endingWith r rs = record { from = lastEnd rs; to = r ∷ rs; why = whyWith r rs }
 
 -- those that have ended, the latest first
 unfoldable pub stretches : List Recorded → List Stretch
 stretches [] = []
-stretches (r ∷ rs) = pick (ends (whyAt (r .own))) (endingWith r rs ∷ stretches rs) (stretches rs)
+stretches (r ∷ rs) = pick (isEnd (r .own)) (endingWith r rs ∷ stretches rs) (stretches rs)
 
 -- each begins where the one before it ended, and the first at power-up
 abbrev pub Adjacent : List Stretch → Type 0

@@ -7,12 +7,12 @@ use mathlib.Core.List.{List, _∷_, _++_}
 use mathlib.Core.Path.{_≡_, refl}
 use lib.Dec.{eqb}
 use Rattle.laws.specs.Choice.{pick}
-use Rattle.codes.specs.Mode.{modeOf, isReservedMode}
+use Rattle.codes.specs.Mode.{isReservedMode}
 use Rattle.codes.specs.declared.Mode.{Mode}
 use Rattle.codes.specs.declared.Mode.the-variants.{Bypass, Fifo, Stream, Reserved}
 use Rattle.fifo.specs.Setting.{depthIn}
 use Rattle.device.specs.Device.{depth}
-use Rattle.history.specs.History.{control, setting}
+use Rattle.history.specs.History.{setting}
 use Rattle.recorded.specs.Recorded.{Recorded, eventsOf}
 use Rattle.text.specs.Text.{ascii, decimal, lastDigits}
 use Rattle.wording.specs.Wording.{framesWord}
@@ -42,4 +42,4 @@ deep-said Stream h = refl
 deep-said Reserved h = cc
 
 pub frames-said : (rs : List Recorded) → framesWord (accountOf rs .mode) ≡ framesFor (setting (eventsOf rs) .depth)
-frames-said rs = deep-said (modeOf (control (eventsOf rs))) (mode-known rs)
+frames-said rs = deep-said (accountOf rs .mode) (mode-known rs)

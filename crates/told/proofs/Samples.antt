@@ -12,6 +12,7 @@ use Rattle.laws.specs.Bits.{worth}
 use Rattle.laws.specs.Choice.{pick}
 use Rattle.registers.specs.Answers.{accepted}
 use Rattle.registers.specs.declared.Answer.{Answer}
+use Rattle.codes.specs.Addresses.{controlAt}
 use Rattle.codes.specs.Mode.{modeOf}
 use Rattle.codes.specs.declared.Mode.{Mode}
 use Rattle.events.specs.Event.{Event, powerUp, write, read, sample, cycle, clock}
@@ -19,13 +20,14 @@ use Rattle.events.specs.Views.{atSample}
 use Rattle.recorded.specs.Recorded.{Recorded, beforeOwn, answerTo}
 use Rattle.demand3.specs.Chip.{sampled}
 use Rattle.demand3.specs.Demand.{fates}
-use Rattle.history.specs.History.{accelerometer, control, setting, saysHere}
+use Rattle.paper.specs.Stored.{byteBy}
+use Rattle.history.specs.History.{accelerometer, setting, saysHere}
 use Rattle.demand3.specs.Whole.{heldNow}
 use Rattle.demand3.proofs.Whole.{next-totals}
 use Rattle.counts.specs.Counts.{less, backOf}
 use Rattle.counts.specs.declared.Account.{Account}
 use Rattle.stretches.specs.Histories.{countsOf, accountOf, LostAt}
-use Rattle.stretches.proofs.Histories.{counts-wait, held-wait, control-wait, bounded, less-is, grows}
+use Rattle.stretches.proofs.Histories.{counts-wait, held-wait, byte-wait, bounded, less-is, grows}
 use Rattle.stretches.proofs.Lost.{lost-sample}
 use Rattle.wording.specs.Wording.{sampleLine, lastLine}
 use Rattle.answers.specs.Answer.{sampleText}
@@ -54,7 +56,7 @@ sample-is before behind (clock us) answer l m h k = refl
 
 sample-told : (r : Recorded) (rs : List Recorded) → suc (length rs) < 2 ^ 64 → sampleText (accountOf rs) (accountOf (r ∷ rs)) (r .own) (answerTo r rs) ≡ sampleOf r rs
 sample-told r rs room =
-    sample-is (accountOf rs) (accountOf (r ∷ rs)) (r .own) (answerTo r rs) (lost-by r rs room) (ap modeOf (sym (control-wait r rs))) (sym (held-wait r rs)) refl
+    sample-is (accountOf rs) (accountOf (r ∷ rs)) (r .own) (answerTo r rs) (lost-by r rs room) (ap modeOf (sym (byte-wait r rs controlAt))) (sym (held-wait r rs)) refl
 
 -- of the records of a history
 pub samples-told : (rs : List Recorded) → length rs < 2 ^ 64 → toldOf Samples rs ≡ withSamples rs
@@ -76,7 +78,7 @@ none-named m many = refl
 -- behind, and so of any record's own
 pub lost-named : (es : List Event) (e : Event) (f : List ℕ) → saysHere es e ≡ sampled f
     → let lost = countsOf (e ∷ es) .lost - countsOf es .lost in
-    (lost ≡ 0) ⊎ ((lost ≡ 1) × LostAt f (fates accelerometer es) (fates accelerometer (e ∷ es)) (backOf lost (modeOf (control es)) (heldNow accelerometer es)))
+    (lost ≡ 0) ⊎ ((lost ≡ 1) × LostAt f (fates accelerometer es) (fates accelerometer (e ∷ es)) (backOf lost (modeOf (byteBy es controlAt)) (heldNow accelerometer es)))
 lost-named es e f says = go (eqb (heldNow accelerometer es) (setting es .depth)) refl
   where
     next : countsOf (e ∷ es) .lost ≡ countsOf es .lost + worth 1 (eqb (heldNow accelerometer es) (setting es .depth))
@@ -84,7 +86,7 @@ lost-named es e f says = go (eqb (heldNow accelerometer es) (setting es .depth))
 
     go : (t : Bool) → eqb (heldNow accelerometer es) (setting es .depth) ≡ t
         → let lost = countsOf (e ∷ es) .lost - countsOf es .lost in
-        (lost ≡ 0) ⊎ ((lost ≡ 1) × LostAt f (fates accelerometer es) (fates accelerometer (e ∷ es)) (backOf lost (modeOf (control es)) (heldNow accelerometer es)))
+        (lost ≡ 0) ⊎ ((lost ≡ 1) × LostAt f (fates accelerometer es) (fates accelerometer (e ∷ es)) (backOf lost (modeOf (byteBy es controlAt)) (heldNow accelerometer es)))
     go true q =
         let more : countsOf (e ∷ es) .lost ≡ countsOf es .lost + 1 = next ∙ rw q in
         let one : countsOf (e ∷ es) .lost - countsOf es .lost ≡ 1 = omega (arith, more) in

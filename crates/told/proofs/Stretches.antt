@@ -12,16 +12,16 @@ use lib.ListN.{length, length-append}
 use borrow.Author.Tests.{eqb-true}
 use Rattle.laws.specs.Choice.{pick}
 use Rattle.laws.proofs.Finite.{of-pick}
-use Rattle.recorded.specs.Recorded.{Recorded, eventsOf}
+use Rattle.recorded.specs.Recorded.{Recorded, eventsOf, beforeOwn}
 use Rattle.demand3.specs.Whole.{totals}
 use Rattle.counts.specs.Counts.{ends}
-use Rattle.stretches.specs.Histories.{accountOf, countsOf, refusals, readoutsIn, whyAt, lastEnd, Stretch, endingWith, stretches, unended, Conserved, apart, Part, Between, Each, over, inside, together}
+use Rattle.stretches.specs.Histories.{accountOf, countsOf, refusals, readoutsIn, whyWith, isEnd, lastEnd, Stretch, endingWith, stretches, unended, Conserved, apart, Part, Between, Each, over, inside, together}
 use Rattle.counts.specs.declared.Account.{Account}
 use Rattle.counts.specs.declared.Counts.{Counts}
 use Rattle.counts.specs.declared.Why.{Why}
 use Rattle.counts.specs.declared.Why.the-variants.{Nothing}
 use Rattle.stretches.proofs.Ranges.{SameRange, range-lasts}
-use Rattle.stretches.proofs.Stretches.{lastEnd-part, stretches-lead, all-lead, sums, each-conserves, each-differs}
+use Rattle.stretches.proofs.Stretches.{ends-is, lastEnd-part, stretches-lead, all-lead, sums, each-conserves, each-differs}
 use Rattle.wording.specs.Wording.{stretchLine, modedLine, lastLine, lineText}
 use Rattle.wording.specs.declared.Line.the-variants as line
 use Rattle.answers.specs.Answer.{stretchOf, endedOf, restText}
@@ -38,15 +38,14 @@ moded-line moded from before behind w = of-pick lineText moded (line.Moded from 
 
 -- of a stretch that a record ends, where it does
 pub ended-line : (moded : Bool) (r : Recorded) (rs : List Recorded)
-    → lineText (endedOf moded (accountOf (lastEnd rs)) (accountOf rs) (accountOf (r ∷ rs)) (whyAt (r .own)))
-    ≡ pick (ends (whyAt (r .own))) (lineOf moded (endingWith r rs)) []
-ended-line moded r rs = go (ends (whyAt (r .own))) refl
+    → lineText (endedOf moded (accountOf (lastEnd rs)) (accountOf rs) (accountOf (r ∷ rs)) (whyWith r rs))
+    ≡ pick (isEnd (r .own)) (lineOf moded (endingWith r rs)) []
+ended-line moded r rs = go (isEnd (r .own)) (ends-is (beforeOwn r rs) (r .own))
   where
-    go : (t : Bool) → ends (whyAt (r .own)) ≡ t
-        → lineText (pick t (stretchOf moded (accountOf (lastEnd rs)) (accountOf rs) (accountOf (r ∷ rs)) (whyAt (r .own))) line.Nothing)
-        ≡ pick t (lineOf moded (endingWith r rs)) []
-    go true q = moded-line moded (accountOf (lastEnd rs)) (accountOf rs) (accountOf (r ∷ rs)) (whyAt (r .own)) ∙ rw q
-    go false q = refl
+    go : (t : Bool) → ends (whyWith r rs) ≡ t
+        → lineText (endedOf moded (accountOf (lastEnd rs)) (accountOf rs) (accountOf (r ∷ rs)) (whyWith r rs)) ≡ pick t (lineOf moded (endingWith r rs)) []
+    go true q = rw q (moded-line moded (accountOf (lastEnd rs)) (accountOf rs) (accountOf (r ∷ rs)) (whyWith r rs))
+    go false q = rw q
 
 -- where the stretches are asked for, with their modes or without
 abbrev pub form : Bool → Asked
@@ -54,7 +53,7 @@ form true = Modes
 form false = Stretches
 
 ended-text : (moded : Bool) (r : Recorded) (rs : List Recorded) → toldOf (form moded) (r ∷ rs)
-    ≡ toldOf (form moded) rs ++ pick (ends (whyAt (r .own))) (lineOf moded (endingWith r rs)) []
+    ≡ toldOf (form moded) rs ++ pick (isEnd (r .own)) (lineOf moded (endingWith r rs)) []
 unfolding toldOf
 ended-text true r rs = ap (λ l. toldOf Modes rs ++ l) (ended-line true r rs)
 ended-text false r rs = ap (λ l. toldOf Stretches rs ++ l) (ended-line false r rs)
@@ -68,7 +67,7 @@ no-records false = refl
 pub stretches-told : (moded : Bool) (rs : List Recorded) → toldOf (form moded) rs ≡ linesFor moded (stretches rs)
 unfolding stretches
 stretches-told moded [] = no-records moded
-stretches-told moded (r ∷ rs) = ended-text moded r rs ∙ rw (stretches-told moded rs) (go (ends (whyAt (r .own))))
+stretches-told moded (r ∷ rs) = ended-text moded r rs ∙ rw (stretches-told moded rs) (go (isEnd (r .own)))
   where
     new : Stretch
     new = endingWith r rs
@@ -166,11 +165,11 @@ InForce s = SameRange (accountOf (seenAt s)) (accountOf (s .from))
 ended-in-force : (rs : List Recorded) → Each InForce (stretches rs)
 unfolding stretches
 ended-in-force [] = tt
-ended-in-force (r ∷ rs) = go (ended-in-force rs) (ends (whyAt (r .own))) refl
+ended-in-force (r ∷ rs) = go (ended-in-force rs) (isEnd (r .own)) refl
   where
-    go : Each InForce (stretches rs) → (t : Bool) → ends (whyAt (r .own)) ≡ t
+    go : Each InForce (stretches rs) → (t : Bool) → isEnd (r .own) ≡ t
         → Each InForce (pick t (endingWith r rs ∷ stretches rs) (stretches rs))
-    go earlier true q = (rw q (range-lasts rs), earlier)
+    go earlier true q = (rw (ends-is (beforeOwn r rs) (r .own), q) (range-lasts rs), earlier)
     go earlier false q = earlier
 
 pub all-in-force : (rs : List Recorded) → Each InForce (printedStretches rs)

@@ -20,11 +20,12 @@ use Rattle.benchlog.specs.declared.Found.the-variants as found
 use Rattle.benchlog.proofs.Heads.{next-behind}
 use Rattle.events.specs.Run.{after}
 use Rattle.entries.specs.Entries.{eventOf}
-use Rattle.recorded.specs.Recorded.{Recorded, recordOf, eventsOf, answerTo}
+use Rattle.recorded.specs.Recorded.{Recorded, recordOf, eventsOf, beforeOwn, answerTo}
 use Rattle.follow.specs.Whole.{linesAs, linesOf, begunAs, printedFrom}
 use Rattle.counts.specs.Counts.{ends}
-use Rattle.stretches.specs.Histories.{accountOf, whyAt, lastEnd}
+use Rattle.stretches.specs.Histories.{accountOf, whyWith, isEnd, lastEnd}
 use Rattle.stretches.proofs.Histories.{account-first, account-next, why-is}
+use Rattle.stretches.proofs.Stretches.{ends-is}
 use Rattle.answers.specs.Answer.{start, at, recordText, markAfter, answerer, printed}
 use Rattle.told.specs.Histories.{recordsAs, recordsOnto, stopAs, stopIn, atMark, toldOf, endOf, toldAs, told}
 use Rattle.answers.specs.declared.Answering.{Answering}
@@ -33,9 +34,9 @@ use Rattle.answers.specs.declared.Asked.the-variants.{Stretches, Modes, Samples
 
 -- ---- the mark
 -- one record more: it is the mark where it ends a stretch, or is the record from
-ends-marked : (r : Recorded) (rs : List Recorded) → pick (ends (whyAt (r .own))) (accountOf (r ∷ rs)) (accountOf (lastEnd rs)) ≡ accountOf (lastEnd (r ∷ rs))
+ends-marked : (r : Recorded) (rs : List Recorded) → pick (ends (whyWith r rs)) (accountOf (r ∷ rs)) (accountOf (lastEnd rs)) ≡ accountOf (lastEnd (r ∷ rs))
 unfolding lastEnd
-ends-marked r rs = sym (of-pick accountOf (ends (whyAt (r .own))) (r ∷ rs) (lastEnd rs))
+ends-marked r rs = rw (ends-is (beforeOwn r rs) (r .own)) (sym (of-pick accountOf (isEnd (r .own)) (r ∷ rs) (lastEnd rs)))
 
 -- the history at the record from, one record more
 from-marked : (from upto : ℕ) (r : Recorded) (rs : List Recorded)
@@ -61,7 +62,7 @@ from-marked from upto r rs = go (eqb (suc (length rs)) from) refl (ltb (length r
         rw (le-ltb _ _ past, one)
 
 mark-next : (asked : Asked) (r : Recorded) (rs : List Recorded)
-    → markAfter asked (accountOf (atMark asked rs)) (accountOf (r ∷ rs)) (whyAt (r .own)) ≡ accountOf (atMark asked (r ∷ rs))
+    → markAfter asked (accountOf (atMark asked rs)) (accountOf (r ∷ rs)) (whyWith r rs) ≡ accountOf (atMark asked (r ∷ rs))
 mark-next Stretches r rs = ends-marked r rs
 mark-next Modes r rs = ends-marked r rs
 mark-next Samples r rs = ends-marked r rs
@@ -92,7 +93,7 @@ module _ (asked : Asked) (rs : List Recorded) (e : Entry) (room : suc (length rs
   answering-next = rw (account-next rs (recordOf e) room, why-is (eventsOf rs) (eventOf e), mark-next asked (recordOf e) rs)
 
   pub answering-text : answerer .text (answeringOf asked rs) e
-      ≡ recordText asked (accountOf (atMark asked rs)) (accountOf rs) (accountOf (recordOf e ∷ rs)) (eventOf e) (answerTo (recordOf e) rs) (whyAt (eventOf e))
+      ≡ recordText asked (accountOf (atMark asked rs)) (accountOf rs) (accountOf (recordOf e ∷ rs)) (eventOf e) (answerTo (recordOf e) rs) (whyWith (recordOf e) rs)
   unfolding after
   answering-text = rw (account-next rs (recordOf e) room, why-is (eventsOf rs) (eventOf e))
 

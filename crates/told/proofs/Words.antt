@@ -17,10 +17,10 @@ use Rattle.registers.specs.declared.Answer.{Answer}
 use Rattle.events.specs.Event.{Event, powerUp, write, read, sample, cycle, clock}
 use Rattle.events.specs.Views.{atWrite}
 use Rattle.recorded.specs.Recorded.{Recorded, answerTo}
-use Rattle.counts.specs.Counts.{differences, ends, isSameRange, isSameMode}
+use Rattle.counts.specs.Counts.{differences, isSameRange, isSameMode}
 use Rattle.counts.specs.declared.Account.{Account}
 use Rattle.counts.specs.declared.Why.{Why}
-use Rattle.stretches.specs.Histories.{accountOf, whyAt, lastEnd, Stretch, endingWith, stretches, Part, Between, Each, inside as insideOf}
+use Rattle.stretches.specs.Histories.{accountOf, isEnd, lastEnd, Stretch, endingWith, stretches, Part, Between, Each, inside as insideOf}
 use Rattle.stretches.proofs.Histories.{differences-are}
 use Rattle.stretches.proofs.Stretches.{lastEnd-part, sums, each-differs}
 use Rattle.wording.specs.Wording.{refusedLine, rangeLine, modeLine, shortLine, overLine, lineText}
@@ -37,7 +37,7 @@ use Rattle.told.proofs.Stretches.{added-up-is}
 pub later-lead : (later h : List Recorded) → lastEnd h ≡ h → (ss : List Stretch) × (stretches (later ++ h) ≡ ss ++ stretches h) × Between h ss (lastEnd (later ++ h))
 unfolding stretches lastEnd
 later-lead [] h l = ([], refl, l)
-later-lead (r ∷ later) h l = go (later-lead later h l) (ends (whyAt (r .own)))
+later-lead (r ∷ later) h l = go (later-lead later h l) (isEnd (r .own))
   where
     rs : List Recorded
     rs = later ++ h

@@ -13,7 +13,7 @@ use Rattle.benchlog.specs.declared.Found.the-variants as found
 use Rattle.benchlog.specs.declared.Begins.{Begins}
 use Rattle.benchlog.specs.declared.Begins.the-variants as begins
 use Rattle.recorded.specs.Recorded.{Recorded, recordOf, answerTo}
-use Rattle.stretches.specs.Histories.{accountOf, whyAt, lastEnd}
+use Rattle.stretches.specs.Histories.{accountOf, whyWith, lastEnd}
 use Rattle.answers.specs.Answer.{recordText, endText}
 use Rattle.answers.specs.declared.Asked.{Asked}
 use Rattle.answers.specs.declared.Asked.the-variants.{Stretches, Modes, Samples, Between, Whole}
@@ -53,7 +53,7 @@ unfoldable pub toldOf : Asked → List Recorded → List ℕ
 toldOf asked [] = []
 toldOf asked (r ∷ rs) =
     toldOf asked rs
-    ++ recordText asked (accountOf (atMark asked rs)) (accountOf rs) (accountOf (r ∷ rs)) (r .own) (answerTo r rs) (whyAt (r .own))
+    ++ recordText asked (accountOf (atMark asked rs)) (accountOf rs) (accountOf (r ∷ rs)) (r .own) (answerTo r rs) (whyWith r rs)
 
 -- and where the log stops
 abbrev pub endOf : Asked → Bool → List Recorded → ℕ → List ℕ

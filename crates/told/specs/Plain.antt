@@ -6,14 +6,16 @@ use mathlib.Core.Path.{_≡_}
 use lib.Dec.{eqb}
 use lib.ListN.{length}
 use Rattle.laws.specs.Choice.{pick}
+use Rattle.codes.specs.Addresses.{controlAt}
 use Rattle.codes.specs.Mode.{modeOf}
 use Rattle.registers.specs.Answers.{accepted, number}
 use Rattle.events.specs.Views.{atWrite, atSample}
-use Rattle.history.specs.History.{accelerometer, control}
+use Rattle.paper.specs.Stored.{byteBy}
+use Rattle.history.specs.History.{accelerometer}
 use Rattle.demand3.specs.Whole.{heldNow}
 use Rattle.recorded.specs.Recorded.{Recorded, beforeOwn, answerTo}
 use Rattle.counts.specs.Counts.{differences, ends, isSameRange, isSameMode, backOf}
-use Rattle.stretches.specs.Histories.{countsOf, accountOf, whyAt, lastEnd, Stretch, endingWith, stretches, unended, Between, over}
+use Rattle.stretches.specs.Histories.{countsOf, accountOf, isEnd, lastEnd, Stretch, endingWith, stretches, unended, Between, over}
 use Rattle.counts.specs.declared.Counts.{Counts}
 use Rattle.wording.specs.Wording.{stretchLine, modedLine, sampleLine, refusedLine, rangeLine, modeLine, totalsLine, lostLine, noReadoutLine}
 
@@ -63,13 +65,13 @@ sampleOf r rs =
     let e = r .own in
     let es = beforeOwn r rs in
     let lost = countsOf (e ∷ es) .lost - countsOf es .lost in
-    let back = backOf lost (modeOf (control es)) (heldNow accelerometer es) in
+    let back = backOf lost (modeOf (byteBy es controlAt)) (heldNow accelerometer es) in
     atSample [] (λ x y z temperature. pick (accepted (answerTo r rs)) (sampleLine (suc (length rs)) x y z lost back) []) e
 
 -- those and the stretches' lines, in order, as their records came
 abbrev pub withSamples : List Recorded → List ℕ
 withSamples [] = []
-withSamples (r ∷ rs) = withSamples rs ++ (sampleOf r rs ++ pick (ends (whyAt (r .own))) (lineOf true (endingWith r rs)) [])
+withSamples (r ∷ rs) = withSamples rs ++ (sampleOf r rs ++ pick (isEnd (r .own)) (lineOf true (endingWith r rs)) [])
 
 -- the rest's line, "only where records are left"
 abbrev pub restOf : Bool → List Recorded → List ℕ
