@@ -143,13 +143,8 @@ unfolding readoutsIn
 readouts-more es e = omega (arith, worth-few (atRead false readsOut e))
 
 -- none is larger than n
-pub record Bounded (n : ℕ) (c : Counts) : Type 0 where
-  pub accepted : c .accepted ≤ n
-  pub taken : c .taken ≤ n
-  pub lost : c .lost ≤ n
-  pub cleared : c .cleared ≤ n
-  pub refused : c .refused ≤ n
-  pub readouts : c .readouts ≤ n
+abbrev pub Bounded : ℕ → Counts → Type 0
+Bounded n c = Grown c (record { accepted = n; taken = n; lost = n; cleared = n; refused = n; readouts = n })
 
 bounded-by : (n : ℕ) (es : List Event) → countsOf es .accepted ≤ n → refusals es ≤ n → readoutsIn es ≤ n → Bounded n (countsOf es)
 bounded-by n es few refused readouts =
@@ -219,6 +214,35 @@ module _ (es : List Event) (e : Event) where
   held-same : saysHere es e ≡ nothing → heldBehind ≡ heldBefore
   held-same q = next-held accelerometer es e nothing q (setting es) (lawful .keeps es e (rw q))
 
+  -- no sample comes, and so many frames are taken and cleared away
+  abbrev Gone : ℕ → ℕ → Type 0
+  Gone out away = (countsOf (e ∷ es) .accepted ≡ countsOf es .accepted) × (countsOf (e ∷ es) .taken ≡ countsOf es .taken + out)
+      × (countsOf (e ∷ es) .lost ≡ countsOf es .lost) × (countsOf (e ∷ es) .cleared ≡ countsOf es .cleared + away)
+
+  gone-cleared : saysHere es e ≡ cleared → Gone 0 (less heldBefore heldBehind)
+  gone-cleared q =
+      let t = next-totals accelerometer es e cleared q in
+      let all : less heldBefore heldBehind ≡ heldBefore = omega (arith, held-cleared q, held-few es) in
+      (ap (λ n. n .accepted) t, omega (arith, ap (λ n. n .taken) t), ap (λ n. n .lost) t, omega (arith, ap (λ n. n .clearedAway) t, all))
+
+  gone-read : (n : ℕ) → saysHere es e ≡ readOut n → Gone (less heldBefore heldBehind) 0
+  gone-read n q =
+      let t = next-totals accelerometer es e (readOut n) q in
+      let some : less heldBefore heldBehind ≡ min heldBefore (begun (setting es .size) n) = omega (arith, held-read n q, held-few es) in
+      (ap (λ n. n .accepted) t, omega (arith, ap (λ n. n .taken) t, some), ap (λ n. n .lost) t, omega (arith, ap (λ n. n .clearedAway) t))
+
+  gone-none : saysHere es e ≡ nothing → Gone 0 0
+  gone-none q =
+      let t = next-totals accelerometer es e nothing q in
+      (ap (λ n. n .accepted) t, omega (arith, ap (λ n. n .taken) t), ap (λ n. n .lost) t, omega (arith, ap (λ n. n .clearedAway) t))
+
+  none-gone : saysHere es e ≡ nothing → less heldBefore heldBehind ≡ 0
+  none-gone q = omega (arith, held-same q, held-few es)
+
+  no-readout : atRead false readsOut e ≡ false → readoutsIn (e ∷ es) ≡ readoutsIn es
+  unfolding readoutsIn
+  no-readout r = rw r (omega arith)
+
   module _ {n : ℕ} (below : Bounded n (countsOf es)) (room : suc n < 2 ^ 64) where
     abbrev answer : Answer
     answer = happens (after es) e .answer
@@ -231,11 +255,10 @@ module _ (es : List Event) (e : Event) where
     more : (a b k : ℕ) → b ≡ a + k → b ≤ suc n → sum a k ≡ b
     more a b k p small = omega arith
 
-    -- what it takes and clears away, with k readouts more
-    read-is : (out away k : ℕ) → countsOf (e ∷ es) .accepted ≡ countsOf es .accepted → countsOf (e ∷ es) .taken ≡ countsOf es .taken + out
-        → countsOf (e ∷ es) .lost ≡ countsOf es .lost → countsOf (e ∷ es) .cleared ≡ countsOf es .cleared + away
-        → readoutsIn (e ∷ es) ≡ readoutsIn es + k → counts.withReadouts (left (countsOf es) out away (refusedBy answer)) k ≡ countsOf (e ∷ es)
-    read-is out away k a t l c r =
+    -- with k readouts more, and with none
+    read-is : (out away k : ℕ) → Gone out away → readoutsIn (e ∷ es) ≡ readoutsIn es + k
+        → counts.withReadouts (left (countsOf es) out away (refusedBy answer)) k ≡ countsOf (e ∷ es)
+    read-is out away k (a, t, l, c) r =
         let now = bounded-next es e below in
         λ i. record {
           accepted = sym a i;
@@ -246,47 +269,13 @@ module _ (es : List Event) (e : Event) where
           readouts = more (readoutsIn es) (readoutsIn (e ∷ es)) k r (now .readouts) i;
         }
 
-    no-readout : atRead false readsOut e ≡ false → readoutsIn (e ∷ es) ≡ readoutsIn es
-    unfolding readoutsIn
-    no-readout r = rw r (omega arith)
-
-    left-is : (out away : ℕ) → countsOf (e ∷ es) .accepted ≡ countsOf es .accepted → countsOf (e ∷ es) .taken ≡ countsOf es .taken + out
-        → countsOf (e ∷ es) .lost ≡ countsOf es .lost → countsOf (e ∷ es) .cleared ≡ countsOf es .cleared + away
-        → atRead false readsOut e ≡ false → left (countsOf es) out away (refusedBy answer) ≡ countsOf (e ∷ es)
-    left-is out away a t l c r =
+    left-is : (out away : ℕ) → Gone out away → atRead false readsOut e ≡ false → left (countsOf es) out away (refusedBy answer) ≡ countsOf (e ∷ es)
+    left-is out away gone r =
         let none = no-readout r in
         let same : sum (readoutsIn es) 0 ≡ readoutsIn es = sum-is (readoutsIn es) 0 (omega (arith, below .readouts)) ∙ omega arith in
         let now = left (countsOf es) out away (refusedBy answer) in
         (λ i. record { accepted = now .accepted; taken = now .taken; lost = now .lost; cleared = now .cleared; refused = now .refused; readouts = sym same i })
-        ∙ read-is out away 0 a t l c (omega (arith, none))
-
-    cleared-counts : saysHere es e ≡ cleared → atRead false readsOut e ≡ false → left (countsOf es) 0 (less heldBefore heldBehind) (refusedBy answer) ≡ countsOf (e ∷ es)
-    cleared-counts q r =
-        let t = next-totals accelerometer es e cleared q in
-        let gone : less heldBefore heldBehind ≡ heldBefore = omega (arith, held-cleared q, held-few es) in
-        left-is 0 (less heldBefore heldBehind) (ap (λ n. n .accepted) t) (omega (arith, ap (λ n. n .taken) t)) (ap (λ n. n .lost) t) (omega (arith, ap (λ n. n .clearedAway) t, gone)) r
-
-    read-counts : (n k : ℕ) → saysHere es e ≡ readOut n → readoutsIn (e ∷ es) ≡ readoutsIn es + k
-        → counts.withReadouts (left (countsOf es) (less heldBefore heldBehind) 0 (refusedBy answer)) k ≡ countsOf (e ∷ es)
-    read-counts n k q r =
-        let t = next-totals accelerometer es e (readOut n) q in
-        let gone : less heldBefore heldBehind ≡ min heldBefore (begun (setting es .size) n) = omega (arith, held-read n q, held-few es) in
-        read-is (less heldBefore heldBehind) 0 k (ap (λ n. n .accepted) t) (omega (arith, ap (λ n. n .taken) t, gone)) (ap (λ n. n .lost) t) (omega (arith, ap (λ n. n .clearedAway) t)) r
-
-    unread-counts : (k : ℕ) → saysHere es e ≡ nothing → readoutsIn (e ∷ es) ≡ readoutsIn es + k
-        → counts.withReadouts (left (countsOf es) (less heldBefore heldBehind) 0 (refusedBy answer)) k ≡ countsOf (e ∷ es)
-    unread-counts k q r =
-        let t = next-totals accelerometer es e nothing q in
-        let gone : less heldBefore heldBehind ≡ 0 = omega (arith, held-same q, held-few es) in
-        read-is (less heldBefore heldBehind) 0 k (ap (λ n. n .accepted) t) (omega (arith, ap (λ n. n .taken) t, gone)) (ap (λ n. n .lost) t) (omega (arith, ap (λ n. n .clearedAway) t)) r
-
-    same-counts : saysHere es e ≡ nothing → atRead false readsOut e ≡ false → left (countsOf es) 0 0 (refusedBy answer) ≡ countsOf (e ∷ es)
-    same-counts q r =
-        let t = next-totals accelerometer es e nothing q in
-        left-is 0 0 (ap (λ n. n .accepted) t) (omega (arith, ap (λ n. n .taken) t)) (ap (λ n. n .lost) t) (omega (arith, ap (λ n. n .clearedAway) t)) r
-
-    none-gone : saysHere es e ≡ nothing → less heldBefore heldBehind ≡ 0
-    none-gone q = omega (arith, held-same q, held-few es)
+        ∙ read-is out away 0 gone (omega (arith, none))
 
     -- a sample that comes when the FIFO is full makes no frame more
     one-lost : (f : List ℕ) → saysHere es e ≡ sampled f → less (sum heldBefore 1) heldBehind ≡ worth 1 (eqb heldBefore (setting es .depth))
@@ -334,24 +323,24 @@ readouts-next es a n = omega (arith, ap (worth 1) (sym (readout-is a n)), go (eq
 
 counts-next : {n : ℕ} (es : List Event) (e : Event) → Bounded n (countsOf es) → suc n < 2 ^ 64 → Counted es e
 unfolding countsAfter saysHere sampleOf readOf
-counts-next es powerUp few room = cleared-counts es powerUp few room refl refl
+counts-next es powerUp few room = left-is es powerUp few room 0 _ (gone-cleared es powerUp refl) refl
 counts-next es (write a byte) few room = go (clearsFifo es (write a byte)) refl
   where
     go : (t : Bool) → clearsFifo es (write a byte) ≡ t → Counted es (write a byte)
-    go true q = cleared-counts es (write a byte) few room (rw q) refl
-    go false q = rw (none-gone es (write a byte) few room (rw q)) (same-counts es (write a byte) few room (rw q) refl)
+    go true q = left-is es (write a byte) few room 0 _ (gone-cleared es (write a byte) (rw q)) refl
+    go false q = rw (none-gone es (write a byte) (rw q)) (left-is es (write a byte) few room 0 0 (gone-none es (write a byte) (rw q)) refl)
 counts-next es (read a n) few room = go (readsOut a n) refl
   where
     go : (t : Bool) → readsOut a n ≡ t → Counted es (read a n)
-    go true q = read-counts es (read a n) few room n (readoutsBy a (readAnswer a n)) (rw q) (readouts-next es a n)
-    go false q = unread-counts es (read a n) few room (readoutsBy a (readAnswer a n)) (rw q) (readouts-next es a n)
+    go true q = read-is es (read a n) few room _ 0 _ (gone-read es (read a n) n (rw q)) (readouts-next es a n)
+    go false q = rw (none-gone es (read a n) (rw q)) (read-is es (read a n) few room 0 0 _ (gone-none es (read a n) (rw q)) (readouts-next es a n))
 counts-next es (sample x y z temperature) few room = go (allInside x y z) refl
   where
     go : (t : Bool) → allInside x y z ≡ t → Counted es (sample x y z temperature)
     go true q = let p = sample-is x y z ∙ q in rw p (sampled-counts es (sample x y z temperature) few room (frame (axesOf (control es)) x y z) (rw q) p refl)
-    go false q = let p = sample-is x y z ∙ q in rw p (rw p at (same-counts es (sample x y z temperature) few room (rw q) refl))
-counts-next es cycle few room = same-counts es cycle few room refl refl
-counts-next es (clock us) few room = same-counts es (clock us) few room refl refl
+    go false q = let p = sample-is x y z ∙ q in rw p (rw p at (left-is es (sample x y z temperature) few room 0 0 (gone-none es (sample x y z temperature) (rw q)) refl))
+counts-next es cycle few room = left-is es cycle few room 0 0 (gone-none es cycle refl) refl
+counts-next es (clock us) few room = left-is es (clock us) few room 0 0 (gone-none es (clock us) refl) refl
 
 -- ---- doubts
 number-next : (n : ℕ) → suc n < 2 ^ 64 → sum n 1 ≡ suc n
