@@ -10,6 +10,7 @@ use lib.Dec.{eqb}
 use lib.IntN.{ℤ}
 use lib.ListN.{length, getD, take}
 use Rattle.laws.specs.Choice.{pick, both, either}
+use Rattle.laws.proofs.Finite.{left, right}
 use Rattle.codes.specs.Addresses.{controlAt}
 use Rattle.codes.specs.Axes.{axesOf}
 use Rattle.codes.specs.Mode.{modeOf, isReservedMode}
@@ -34,11 +35,11 @@ use Rattle.events.specs.Parts.{flatNext}
 use Rattle.events.proofs.Parts.{flat-next}
 use Rattle.events.proofs.Runs.{bank-is}
 use Rattle.paper.specs.Stored.{isSoftReset, none, last, byteLeft, lastWrite, byteBy, isAccepted}
-use Rattle.paper.specs.Samples.{allInside}
+use Rattle.paper.specs.Samples.{isInside, allInside}
 use Rattle.paper.specs.Readouts.{readsOut, clearsFifo}
 use Rattle.paper.proofs.Stored.{stored-is}
 use Rattle.paper.proofs.Codes.{mode-known}
-use Rattle.paper.proofs.Samples.{sample-is}
+use Rattle.paper.proofs.Samples.{sample-is, code-is, upper-is}
 use Rattle.paper.proofs.Readouts.{readout-is, clears-is}
 use Rattle.demand3.specs.Chip.{since}
 use Rattle.history.specs.History.{control, frame, saysHere, accelerometer}
@@ -69,12 +70,12 @@ control-kept es (clock us) h = refl
 pub deep : Deep room depth
 deep = record { some = omega arith; space = omega arith }
 
-frame-is : (a : Axes) (x y z : ℤ) → take (sizeOf a) (frameOf a (codes x y z)) ≡ frame a x y z
+frame-is : (a : Axes) (x y z : ℤ) → isInside x ≡ true → isInside y ≡ true → isInside z ≡ true → take (sizeOf a) (frameOf a (codes x y z)) ≡ frame a x y z
 unfolding frame
-frame-is All x y z = refl
-frame-is X x y z = refl
-frame-is Y x y z = refl
-frame-is Z x y z = refl
+frame-is All x y z p q r = rw (code-is x p, code-is y q, code-is z r, upper-is x, upper-is y, upper-is z)
+frame-is X x y z p q r = rw (code-is x p, upper-is x)
+frame-is Y x y z p q r = rw (code-is y q, upper-is y)
+frame-is Z x y z p q r = rw (code-is z r, upper-is z)
 
 pub frame-long : (a : Axes) (x y z : ℤ) → (sizeOf a ≤ length (frameOf a (codes x y z))) × (length (frame a x y z) ≡ sizeOf a)
 unfolding frame
@@ -130,8 +131,10 @@ module _ (es : List Event) {f : Flat} (h : Stores es f) where
           → Stores (sample x y z t ∷ es) (pick s (pushedAt depth (modeOf (control es)) (axesOf (control es)) (frameOf (axesOf (control es)) (codes x y z)) f) f)
       go true e =
           let l = frame-long (axesOf c) x y z in
+          let rest = right (isInside x) (both (isInside y) (isInside z)) e in
+          let is = frame-is (axesOf c) x y z (left (isInside x) (both (isInside y) (isInside z)) e) (left (isInside y) (isInside z) rest) (right (isInside y) (isInside z) rest) in
           record {
-            same = rw (e, h .same) (pushed-packed (h .fits) (modeOf c) (frameOf (axesOf c) (codes x y z)) (l .0) ∙ rw frame-is);
+            same = rw (e, h .same) (pushed-packed (h .fits) (modeOf c) (frameOf (axesOf c) (codes x y z)) (l .0) ∙ rw is);
             fits = rw e (fits-pushed (h .fits) (modeOf c) (frame (axesOf c) x y z) (l .1));
           }
       go false e = record { same = rw e (h .same); fits = rw e (h .fits) }

@@ -19,14 +19,13 @@ use Rattle.fifo.specs.Ledger as fifo
 use Rattle.fifo.specs.Ledger.{heldOf}
 use Rattle.fifo.specs.Setting.{settingOf}
 use Rattle.fifo.specs.declared.Setting.{Setting}
-use Rattle.channels.specs.Codes.{code, lsbOf, msbOf}
 use Rattle.device.specs.Device.{depth}
 use Rattle.device.specs.Read.{bufferAfter}
 use Rattle.events.specs.Event.{Event}
 use Rattle.events.specs.Run.{after}
 use Rattle.events.specs.Views.{atRead}
 use Rattle.paper.specs.Stored.{byteBy}
-use Rattle.paper.specs.Samples.{Values, isSample, valuesAt}
+use Rattle.paper.specs.Samples.{Values, isSample, valuesAt, twelveBits, lsbByte, msbByte}
 use Rattle.paper.specs.Readouts.{readsOut, clearsFifo}
 use Rattle.demand3.specs.Chip.{Said, cleared, sampled, readOut, nothing, Chip, Twin, since}
 use Rattle.demand3.specs.Counts.{arrivals, heldAfter}
@@ -43,7 +42,7 @@ setting es = settingOf depth (modeOf (control es)) (axesOf (control es))
 
 -- "LSB then MSB, new-data bit 1"
 abbrev pub axis : ℤ → List ℕ
-axis v = lsbOf true (code v) ∷ msbOf (code v) ∷ []
+axis v = lsbByte true (twelveBits v) ∷ msbByte (twelveBits v) ∷ []
 
 -- "An accepted sample becomes a frame of the selected axes in x, y, z order"
 unfoldable pub frame : Axes → ℤ → ℤ → ℤ → List ℕ

@@ -5,9 +5,9 @@ use mathlib.Core.Bool.{Bool, true, false, not}
 use mathlib.Core.Path.{_≡_, refl, sym, ap, _∙_}
 use mathlib.Core.List.{List, _∷_}
 use native.Mathlib.Omega.{arith}
-use lib.Dec.{eqb, leb}
-use lib.IntN.{ℤ, pos, negsuc}
-use borrow.Author.Tests.{leb-true, le-ltb, ne-eqb}
+use lib.Dec.{eqb}
+use lib.IntN.{ℤ, pos}
+use borrow.Author.Tests.{ne-eqb}
 use Rattle.laws.specs.Choice.{pick, both, either}
 use Rattle.laws.specs.Bits.{bit}
 use Rattle.laws.specs.Lists.{isIn}
@@ -18,9 +18,9 @@ use Rattle.channels.specs.declared.Channel.{Channel}
 use Rattle.channels.specs.declared.Channels.{Channels}
 use Rattle.events.specs.Event.{Event, sample}
 use Rattle.paper.specs.Stored.{startsAnew, byteBy}
-use Rattle.paper.specs.Samples.{noValues, isInside, isSample, valuesAt}
+use Rattle.paper.specs.Samples.{noValues, isInside, isSample, valuesAt, twelveBits}
 use Rattle.paper.specs.Back.{beforeLast}
-use Rattle.rules.specs.Data.{isRead, isRelease, twelveBits, Axis, present, newData, locking, isLocked, dataAddresses, xAxis, yAxis, zAxis}
+use Rattle.rules.specs.Data.{isRead, isRelease, Axis, present, newData, locking, isLocked, dataAddresses, xAxis, yAxis, zAxis}
 
 -- a channel is as a history tells of its axis
 pub record Shows (axis : Axis) (h : List Event) (c : Channel) : Type 0 where
@@ -88,14 +88,6 @@ module _ (axis : Axis) (e : Event) (h : List Event) where
       locked = rw (m .is-start, m .is-msb, m .is-release, m .is-lsb) (s .locked);
       held = rw (m .is-start, m .is-msb, m .is-release, m .is-lsb) (s .held);
     }
-
--- ---- a sample's twelve bits
-pub code-is : (v : ℤ) → isInside v ≡ true → code v ≡ twelveBits v
-unfolding code
-code-is (pos n) h = omega arith
-code-is (negsuc n) h =
-    let l = leb-true n 2047 (left (leb n 2047) true h) in
-    rw (le-ltb 4096 (suc n) (omega arith)) (omega arith)
 
 -- ---- one axis of the channels
 pub record Part (axis : Axis) (part : Channels → Channel) : Type 0 where

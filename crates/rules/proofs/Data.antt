@@ -37,9 +37,9 @@ use Rattle.rules.specs.Bursts.{isBurst, singles, opened}
 use Rattle.paper.specs.Back.{beforeLast}
 use Rattle.rules.specs.Data.{isRead, isRelease, Axis, present, newData, locking, isLocked, lsbShown, msbShown, xAxis, yAxis, zAxis, dataBy}
 use Rattle.paper.proofs.Stored.{stored-is}
-use Rattle.paper.proofs.Samples.{sample-is}
+use Rattle.paper.proofs.Samples.{sample-is, code-is}
 use Rattle.rules.proofs.Bursts.{burst-is, burst-bounds, one-read, opened-same}
-use Rattle.rules.proofs.Channels.{no, Shows, starts, samples, reads-lsb, unlocks, passes, code-is, Part, x-part, y-part, z-part}
+use Rattle.rules.proofs.Channels.{no, Shows, starts, samples, reads-lsb, unlocks, passes, Part, x-part, y-part, z-part}
 
 -- ---- a release
 shadow-accepted : (regs : List ℕ) (byte : ℕ) → accepted (writeAnswer regs shadowAt byte) ≡ true

@@ -1,15 +1,15 @@
 -- 01, "Data channels": what 0x02 to 0x07 show, by looking back over a history of reads of one byte each, whose latest event stands first.
-use Prim.Native.Nat.{ℕ, suc, _+_, _*_, _/_, _%_}
+use Prim.Native.Nat.{ℕ, suc}
 use mathlib.Core.Bool.{Bool, false, not}
 use mathlib.Core.List.{List, [], _∷_}
 use lib.Dec.{eqb}
-use lib.IntN.{ℤ, pos, natAbs, _+ℤ_}
+use lib.IntN.{ℤ}
 use Rattle.laws.specs.Choice.{pick, both, either}
-use Rattle.laws.specs.Bits.{bit, worth}
+use Rattle.laws.specs.Bits.{bit}
 use Rattle.events.specs.Event.{Event}
 use Rattle.events.specs.Views.{atWrite, atRead}
 use Rattle.paper.specs.Stored.{startsAnew, byteBy}
-use Rattle.paper.specs.Samples.{Values, noValues, isSample, valuesAt}
+use Rattle.paper.specs.Samples.{Values, noValues, isSample, valuesAt, twelveBits, lsbByte, msbByte}
 use Rattle.paper.specs.Back.{someSince, beforeLast}
 
 -- ---- events
@@ -25,10 +25,6 @@ isRelease e = atWrite false (λ a byte. both (eqb a 0x13) (bit 6 byte)) e
 abbrev pub lastSample : List Event → Values
 lastSample [] = noValues
 lastSample (e ∷ es) = pick (startsAnew e) noValues (pick (isSample e) (valuesAt es e) (lastSample es))
-
--- "A sample is 12-bit two's complement"
-abbrev pub twelveBits : ℤ → ℕ
-twelveBits v = natAbs (v +ℤ pos 4096) % 4096
 
 -- ---- an axis: the address of its LSB register, behind which stands its MSB register, and its value in a sample
 pub record Axis : Type 0 where
@@ -55,14 +51,13 @@ module _ (axis : Axis) where
   unfoldable pub isLocked : List Event → Bool
   isLocked es = someSince locking unlocking es
 
-  -- "The LSB register holds its low four bits in 7:4, 0 in 3:1 and the new-data bit in 0"
   abbrev pub lsbShown : List Event → ℕ
-  lsbShown es = present es % 16 * 16 + worth 1 (newData es)
+  lsbShown es = lsbByte (newData es) (present es)
 
-  -- "the MSB register holds the upper eight"; "Reading the MSB gives the locked byte .., or the present one": where it is locked, that of
+  -- "Reading the MSB gives the locked byte .., or the present one": where it is locked, that of
   -- the sample that was the present one when it was last locked
   abbrev pub msbShown : List Event → ℕ
-  msbShown es = present (pick (isLocked es) (beforeLast locking es) es) / 16
+  msbShown es = msbByte (present (pick (isLocked es) (beforeLast locking es) es))
 
 -- 0x02 to 0x07: LSB and MSB of x, y and z
 abbrev pub dataAddresses : List ℕ
