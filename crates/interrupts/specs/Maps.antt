@@ -2,6 +2,7 @@
 use Prim.Native.Nat.{ℕ, _+_, _^_}
 use mathlib.Core.Bool.{Bool, false}
 use mathlib.Core.List.{List, [], _∷_}
+use mathlib.Core.Path.{_≡_}
 use lib.Dec.{eqb}
 use lib.ListN.{getD}
 use Rattle.laws.specs.Choice.{pick, both, either}
@@ -60,26 +61,13 @@ mappedIn p s regs (l ∷ ls) = either (both (l .holds s) (bit (mapOf p l .number
 unfoldable pub isActive : Pin → Statuses → List ℕ → Bool
 isActive p s regs = mappedIn p s regs allStatuses
 
--- ---- the same, field by field, as the code does it
-abbrev pub mappedTo : Pin → List ℕ → Statuses
-mappedTo Int1 regs = record {
-  motion = bit 2 (getD regs 0x19 0);
-  ready = bit 0 (getD regs 0x1A 0);
-  watermark = bit 1 (getD regs 0x1A 0);
-  full = bit 2 (getD regs 0x1A 0);
-}
-mappedTo Int2 regs = record {
-  motion = bit 2 (getD regs 0x1B 0);
-  ready = bit 7 (getD regs 0x1A 0);
-  watermark = bit 6 (getD regs 0x1A 0);
-  full = bit 5 (getD regs 0x1A 0);
-}
+-- ---- the same as the code does it, which tells first which statuses are mapped
+-- mapped says of each status among ls whether it is mapped to the pin
+abbrev pub AreMapped : Pin → List ℕ → Statuses → List StatusPlaces → Type 0
+AreMapped p regs mapped [] = Unit {0}
+AreMapped p regs mapped (l ∷ ls) = (l .holds mapped ≡ bit (mapOf p l .number) (getD regs (mapOf p l .address) 0)) × AreMapped p regs mapped ls
 
--- of the statuses, and of which are mapped
-unfoldable pub anyMapped : Statuses → Statuses → Bool
-anyMapped s mapped =
-    either (both (s .motion) (mapped .motion))
-    (either (both (s .ready) (mapped .ready))
-    (either (both (s .watermark) (mapped .watermark))
-    (either (both (s .full) (mapped .full))
-    false)))
+-- whether some status among ls is 1 and mapped
+abbrev pub anyMapped : Statuses → Statuses → List StatusPlaces → Bool
+anyMapped s mapped [] = false
+anyMapped s mapped (l ∷ ls) = either (both (l .holds s) (l .holds mapped)) (anyMapped s mapped ls)

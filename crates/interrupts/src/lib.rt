@@ -2,7 +2,7 @@
 ghost use mathlib.Core.Path.{_≡_};
 ghost use Rattle.laws.specs.Bits.{worth};
 ghost use Rattle.interrupts.specs.Statuses as statuses;
-ghost use Rattle.interrupts.specs.Maps.{statusByte, isActive, mappedTo, anyMapped};
+ghost use Rattle.interrupts.specs.Maps.{allStatuses, statusByte, isActive, AreMapped, anyMapped};
 ghost use Rattle.interrupts.specs.Pins as pins;
 use codes::DRIVE_AT;
 use codes::ENABLES_AT;
@@ -89,7 +89,7 @@ pub fn data_byte(statuses: Statuses) -> u8
 
 // Whether some status is 1 and mapped.
 fn any_mapped(statuses: Statuses, mapped: Statuses) -> bool
-    ensures { λ r. ⌜ r ≡ anyMapped statuses mapped ⌝ }
+    ensures { λ r. ⌜ r ≡ anyMapped statuses mapped allStatuses ⌝ }
 {
     let motion = both(statuses.motion, mapped.motion);
     let ready = both(statuses.ready, mapped.ready);
@@ -100,7 +100,7 @@ fn any_mapped(statuses: Statuses, mapped: Statuses) -> bool
 
 // Which statuses are mapped to a pin.
 fn mapped_to(pin: Pin, regs: &[u8; 64]) -> Statuses
-    ensures { λ r. ⌜ r ≡ mappedTo pin (now (regs .entry)) ⌝ }
+    ensures { λ r. ⌜ AreMapped pin (now (regs .entry)) r allStatuses ⌝ }
 {
     let maps = regs[0x1A];
     match pin {

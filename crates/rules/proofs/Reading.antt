@@ -1,6 +1,6 @@
 -- Demand 2: after any events from power-up on, every read below 0x3F that is accepted, of any length, gives what the rules of 01 say.
 -- Assumes nothing.
-use Prim.Native.Nat.{ℕ, zero, suc, _+_, _/_, _%_, _^_, _<_, _≤_}
+use Prim.Native.Nat.{ℕ, zero, suc, _+_, _/_, _%_, _<_, _≤_}
 use mathlib.Core.Bool.{Bool, true, false}
 use mathlib.Core.Path.{_≡_, refl, sym, ap, _∙_}
 use mathlib.Core.List.{List, [], _∷_}
@@ -8,7 +8,7 @@ use native.Mathlib.Omega.{arith}
 use native.Mathlib.Nat.{add-zero}
 use lib.Dec.{eqb, leb}
 use lib.ListN.{getD}
-use borrow.Author.Tests.{eq-eqb, ne-eqb, le-leb, leb-true}
+use borrow.Author.Tests.{le-leb, leb-true}
 use Rattle.laws.specs.Choice.{pick, both}
 use Rattle.laws.specs.Lists.{isIn}
 use Rattle.laws.specs.Bits.{bit, worth}
@@ -153,20 +153,7 @@ module _ (es : List Event) where
   unfolding byteFrom shownByte
   reads-marks = (single (after es) 0x0B (omega arith) ∙ rw (marks-whole (after es .detectors .motion .alarm) (mark-small es)), proper es .marked)
 
-  -- "0x0E is overrun in bit 7, frame count in 6:0"; "The held frames never exceed the depth"
-  pub reads-frames : let f = after es .fifo in (gives (after es) (read 0x0E 1) ≡ bytes ((worth 128 (f .overrun) + f .count) ∷ [])) × (f .count ≤ depthIn depth (modeOf (stored es controlAt)))
-  unfolding byteFrom shownByte
-  reads-frames = (single (after es) 0x0E (omega arith) ∙ rw (few-held es), rw (bank-is es) at (proper es .few))
-
-  -- their bits
-  pub frames-apart : let v = ruled (elsewhereIn (after es)) es 0x0E in (bit 7 v ≡ after es .fifo .overrun) × (v % 128 ≡ after es .fifo .count)
-  unfolding ruled bit
-  frames-apart = go (after es .fifo .overrun) (after es .fifo .count) (omega (arith, proper es .few, depth-most deep (modeOf (reg (after es) controlAt))))
-    where
-      go : (o : Bool) (c : ℕ) → c < 128 → (eqb ((worth 128 o + c) / 2 ^ 7 % 2) 1 ≡ o) × ((worth 128 o + c) % 128 ≡ c)
-      go true c h = (eq-eqb ((128 + c) / 2 ^ 7 % 2) 1 (omega arith), omega arith)
-      go false c h = (ne-eqb ((0 + c) / 2 ^ 7 % 2) 1 (omega arith), omega arith)
-
+  -- its bits
   pub marks-apart : let a = after es .detectors .motion .alarm in let v = a .mark + worth 8 (a .negative) in (bit 3 v ≡ a .negative) × (v % 8 ≡ a .mark) × (v < 16)
   marks-apart =
       let a = after es .detectors .motion .alarm in

@@ -1,10 +1,8 @@
 use Rattle.laws.proofs.Finite.{either-false}
-use Rattle.interrupts.specs.Maps.{anyMapped}
 use Rattle.interrupts.proofs.any_mapped.Statement.{statement}
 use Rattle.interrupts.proofs.any_mapped.Tie as tie
 
 pub any-mapped-spec : {M : Type 1} → statement M
-unfolding anyMapped
 any-mapped-spec =
     tie.close
     (tie.spec

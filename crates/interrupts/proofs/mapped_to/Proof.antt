@@ -23,9 +23,11 @@ mapped-to-spec =
     let watermark = c .before in
     let ready = watermark .before in
     let motion = ready .before in
-    simp (c .bit4 .ensures, watermark .bit3 .ensures, ready .bit2 .ensures, motion .bit .ensures, motion .before .before .enum-told .given .1))
+    let pin = motion .before .before .enum-told .given .1 in
+    (simp (pin, motion .bit .ensures), (simp (pin, ready .bit2 .ensures), (simp (pin, watermark .bit3 .ensures), (simp (pin, c .bit4 .ensures), tt)))))
     (λ c.
     let watermark = c .before in
     let ready = watermark .before in
     let motion = ready .before in
-    simp (c .bit8 .ensures, watermark .bit7 .ensures, ready .bit6 .ensures, motion .bit5 .ensures, motion .before .before .enum-told2 .given .1)))
+    let pin = motion .before .before .enum-told2 .given .1 in
+    (simp (pin, motion .bit5 .ensures), (simp (pin, ready .bit6 .ensures), (simp (pin, watermark .bit7 .ensures), (simp (pin, c .bit8 .ensures), tt))))))
