@@ -59,11 +59,11 @@ pub clears-is : (es : List Event) (a byte : ℕ) → clears a byte ≡ clearsFif
 unfolding clears
 clears-is es a byte = go (eqb a controlAt) refl
   where
-    swapped : (t s : Bool) → either t s ≡ either s (both t true)
-    swapped true true = refl
-    swapped true false = refl
-    swapped false true = refl
-    swapped false false = refl
+    swapped : (t s u : Bool) → u ≡ t → either t s ≡ either s (both u true)
+    swapped true true u e = refl
+    swapped true false u e = rw e
+    swapped false true u e = refl
+    swapped false false u e = rw e
 
     alone : (s t : Bool) → s ≡ either s (both t false)
     alone true t = refl
@@ -72,5 +72,6 @@ clears-is es a byte = go (eqb a controlAt) refl
 
     go : (t : Bool) → eqb a controlAt ≡ t → clears a byte ≡ clearsFifo es (write a byte)
     go true e =
-        rw (eqb-true a controlAt e, ← accepted-is es controlAt byte, control-accepted (bank es) byte) (swapped (not (isReservedMode (modeOf byte))) (isReset controlAt byte))
+        rw (eqb-true a controlAt e)
+        (swapped (not (isReservedMode (modeOf byte))) (isReset controlAt byte) (isAccepted es controlAt byte) (sym (accepted-is es controlAt byte) ∙ control-accepted (bank es) byte))
     go false e = rw e (alone (isReset a byte) (isAccepted es a byte))
