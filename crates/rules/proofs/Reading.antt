@@ -5,7 +5,6 @@ use mathlib.Core.Bool.{Bool, true, false}
 use mathlib.Core.Path.{_≡_, refl, sym, ap, _∙_}
 use mathlib.Core.List.{List, [], _∷_}
 use native.Mathlib.Omega.{arith}
-use native.Mathlib.Nat.{add-zero}
 use lib.Dec.{eqb, leb}
 use lib.ListN.{getD}
 use borrow.Author.Tests.{le-leb, leb-true}
@@ -141,11 +140,6 @@ module _ (es : List Event) where
   pub reads-temperature : gives (after es) (read 0x08 1) ≡ bytes (lastSample es .temperature ∷ [])
   unfolding byteFrom shownByte
   reads-temperature = single (after es) 0x08 (omega arith) ∙ rw (temperature-is es)
-
-  -- "any-motion (0x09 bit 2)"
-  pub reads-motion : gives (after es) (read 0x09 1) ≡ bytes (worth 4 (motionStatus (after es .detectors)) ∷ [])
-  unfolding byteFrom shownByte statusByte statusesOf
-  reads-motion = single (after es) 0x09 (omega arith) ∙ rw add-zero
 
   -- "0x0B bits 2:0 (z, y, x) mark the first over axis .., and bit 3 is 1 for a negative difference": the mark is 1, 2 or 4 while the
   -- status is set, and 0 else
