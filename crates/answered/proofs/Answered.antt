@@ -1,24 +1,22 @@
 -- What the answer prints as the range is what 01 gives the byte which the events leave at 0x0F, in every line and after any record of a log.
 -- Assumes nothing.
-use Prim.Native.Nat.{ℕ, suc}
+use Prim.Native.Nat.{ℕ}
 use mathlib.Core.Bool.{Bool, true, false}
 use mathlib.Core.List.{List, [], _∷_, _++_}
 use mathlib.Core.Path.{_≡_, refl, ap, _∙_}
-use lib.ListN.{length, drop}
+use lib.ListN.{drop}
 use Rattle.codes.specs.Range.{isReservedRange}
 use Rattle.codes.specs.declared.Range.{Range}
 use Rattle.codes.specs.declared.Range.the-variants.{G2, G4, G8, G16, Reserved}
-use Rattle.benchlog.specs.Reader.{readVersion}
 use Rattle.text.specs.Text.{ascii, decimal, lastDigits}
 use Rattle.counts.specs.Counts.{inG}
 use Rattle.counts.specs.declared.Account.{Account}
 use Rattle.spelling.specs.Spelling.{spaced, gText, modeText, doubtText, countText, columnsThen}
 use Rattle.spelling.proofs.Spelling.{stretch-spelt, in-force-spelt}
-use Rattle.recorded.specs.Recorded.{Recorded, eventsOf}
+use Rattle.recorded.specs.Recorded.{Recorded, eventsOf, historyOf}
 use Rattle.paper.specs.Stored.{byteBy}
 use Rattle.stretches.specs.Histories.{accountOf, Stretch, Between, Each}
 use Rattle.stretches.proofs.Ranges.{range-known}
-use Rattle.told.specs.Histories.{recordsOnto}
 use Rattle.told.specs.Plain.{printedStretches, seenAt, lineOf}
 use Rattle.told.proofs.Stretches.{all-of-lead}
 use Rattle.ranges.specs.Ranges.{MeansG}
@@ -96,6 +94,6 @@ answered-ranges rs = record {
 }
 
 -- ---- any log
--- of the records that the answer's text is about (told/specs/Histories: toldAs)
-pub log-ranges : (log : List ℕ) → let bytes = drop (readVersion log .next) log in AnsweredRanges (recordsOnto (suc (length bytes)) [] bytes)
-log-ranges log = let bytes = drop (readVersion log .next) log in answered-ranges (recordsOnto (suc (length bytes)) [] bytes)
+-- of the records that the answer's text is about (told/specs/Histories: told)
+pub log-ranges : (log : List ℕ) → AnsweredRanges (historyOf log)
+log-ranges log = answered-ranges (historyOf log)

@@ -6,6 +6,7 @@ use mathlib.Core.List.{List}
 use mathlib.Core.Path.{_≡_, refl}
 use Rattle.laws.specs.Choice.{pick}
 use Rattle.benchlog.specs.declared.Entry.{Entry}
+use Rattle.follow.specs.Source.{records}
 use Rattle.follow.specs.Teller.{Teller, Lawful}
 use Rattle.follow.specs.Follow.{Turn, Running, runOf}
 use Rattle.follow.specs.Whole.{printedFrom}
@@ -42,7 +43,7 @@ answer-alike : (r : Replay) → Respects answerer worker (answerJob r)
 answer-alike r = record { begun = λ s. refl; begin = λ s. refl; text = λ s e. refl; next = λ s e. refl; last = λ s refusal. refl }
 
 -- ---- runs
-module _ (t : Teller) (image : t .State → Job) where
+module _ (t : Teller records) (image : t .State → Job) where
   running-image : {out out′ : List ℕ} {u : Turn t} {next : Next} {refusal : ℕ} {s : t .State} {used to : ℕ} → Running t out u out′ next refusal s used to
       → Running worker out (imageOf t worker image u) out′ next refusal (image s) used to
   running-image r = record { next-is = r .next-is; refusal-is = r .refusal-is; state-is = rw (r .state-is); used-is = r .used-is; text-is = r .text-is }

@@ -2,6 +2,7 @@
 use Prim.Native.Nat.{ℕ, _-_}
 use mathlib.Core.Bool.{Bool, true, false}
 use Rattle.laws.specs.Choice.{pick}
+use Rattle.follow.specs.Source.{records}
 use Rattle.follow.specs.Teller.{Teller}
 use Rattle.playback.specs.Replay as replay
 use Rattle.playback.specs.Replay.{replayer}
@@ -31,7 +32,7 @@ toReplay pins = replayJob (answer.start Stretches) (replay.start pins)
 abbrev pub toAnswer : Asked → Job
 toAnswer asked = answerJob (replay.start false) (answer.start asked)
 
-abbrev pub worker : Teller
+abbrev pub worker : Teller records
 worker = record {
   State = Job;
   begun = λ j. pick (j .answers) (answerer .begun (j .answering)) (replayer .begun (j .replay));

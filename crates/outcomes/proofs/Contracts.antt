@@ -23,20 +23,21 @@ use Rattle.events.specs.Event.{Event, write, read, sample, cycle, clock, happen
 use Rattle.entries.specs.Entries.{eventInto}
 use Rattle.benchlog.specs.Answers.{foundNumber, beginsNumber, roomNumber}
 use Rattle.benchlog.specs.Reader.{decided, readAt, readVersion}
+use Rattle.benchlog.specs.Whole.{lookOf}
 use Rattle.benchlog.specs.declared.Begins.{Begins}
 use Rattle.benchlog.specs.declared.Begins.the-variants as begins
 use Rattle.benchlog.specs.declared.Entry.{Entry}
 use Rattle.benchlog.specs.declared.Entry.the-variants as entry
 use Rattle.benchlog.specs.declared.Found.{Found}
 use Rattle.benchlog.specs.declared.Found.the-variants as found
-use Rattle.follow.specs.Follow.{stepRoom, goesOn, halted, soughtAs, haltIn, soughtOf, hasVersion, openedAs, openedOf}
+use Rattle.follow.specs.Source.{records}
+use Rattle.follow.specs.Follow.{stepRoom, goesOn, halted, halts, stepAs, stepOf, asSought, soughtOf, haltIn, hasVersion, openedAs, openedOf}
 use Rattle.follow.specs.declared.Halt as halt
 use Rattle.follow.specs.declared.Next.{Next}
 use Rattle.follow.specs.declared.Next.the-variants.{Go, Wait, Full, Stop}
 use Rattle.follow.specs.declared.Opened.{Opened}
 use Rattle.follow.specs.declared.Opened.the-variants as opened
 use Rattle.follow.specs.declared.Sought.{Sought}
-use Rattle.follow.specs.declared.Sought.the-variants as sought
 use Rattle.follow.proofs.open_log as open-log
 use Rattle.follow.proofs.seek as seek
 use Rattle.benchlog.proofs.Entry as record-type
@@ -186,12 +187,15 @@ module _ (log : List ℕ) (at room : ℕ) (last : Bool) where
   abbrev Sought-due : Sought → Type 0
   Sought-due s = haltIn s .next ≡ Stop → DueAtPlace (drop at log) (haltIn s .refusal)
 
+  abbrev here : List ℕ
+  here = drop at log
+
   sought-due : Sought-due (soughtOf log at room last)
-  unfolding soughtOf
-  sought-due = go (ltb room stepRoom) (either last (decided (drop at log))) (readAt log at .found) (demand1 .at-place log at .exactly _ .0 refl)
+  unfolding stepOf
+  sought-due = go (ltb room stepRoom) (either last (decided here)) (readAt here 0 .found) (demand1 .at-place here 0 .exactly _ .0 refl)
     where
-      go : (t u : Bool) (f : Found) → DueAtPlace (drop at log) (foundNumber f)
-          → let r = pick t Full (pick u Go Wait) in Sought-due (pick (goesOn r) (soughtAs f (readAt log at .next)) (sought.Halt (halted r 0)))
+      go : (t u : Bool) (f : Found) → DueAtPlace here (foundNumber f)
+          → let r = pick t Full (pick u Go Wait) in Sought-due (asSought (pick (goesOn r) (stepAs (lookOf f (readAt here 0 .next)) at) (halts (halted r 0))))
       go true u f due = no-stop refl
       go false true (found.Record e) due = no-stop refl
       go false true found.End due = λ _. due
@@ -203,7 +207,7 @@ module _ (begun : Bool) (log : List ℕ) (room : ℕ) (last : Bool) where
   abbrev Opened-due : Opened → Type 0
   Opened-due o = haltOn o .next ≡ Stop → DueAtStart log (haltOn o .refusal)
 
-  opened-due : Opened-due (openedOf begun log room last)
+  opened-due : Opened-due (openedOf records begun log room last)
   unfolding openedOf
   opened-due = go begun (ltb room stepRoom) (either last (hasVersion (length log))) (readVersion log .begins) (demand1 .at-start log .exactly _ .0 refl)
     where

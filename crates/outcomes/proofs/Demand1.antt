@@ -1,6 +1,6 @@
 -- Demand 1 whole, of the numbers' own theorems: in the order of the tests the number given is that of the first that holds.
 -- Assumes nothing.
-use Prim.Native.Nat.{ℕ, zero, suc, _+_, _*_, _≤_}
+use Prim.Native.Nat.{ℕ, _+_, _*_}
 use mathlib.Core.Bool.{Bool, true, false}
 use mathlib.Core.List.{List, [], _∷_, _++_}
 use mathlib.Core.Logic.{_↔_, _⊎_, _≢_, inl, inr, ⊎-elim}
@@ -8,8 +8,7 @@ use mathlib.Core.Path.{_≡_, refl, sym, ap, subst, _∙_}
 use native.Mathlib.Omega.{arith}
 use borrow.Author.Tests.{eqb-true, eq-eqb}
 use lib.Dec.{eqb}
-use lib.ListN.{length, getD, take, drop, drop-of-length-le}
-use lib.Seq.{drop-drop}
+use lib.ListN.{length, getD, take, drop}
 use Rattle.laws.specs.Choice.{both}
 use Rattle.laws.specs.Refusals.{first}
 use Rattle.registers.proofs.Answers.{zero-accepted}
@@ -21,7 +20,8 @@ use Rattle.events.specs.Views.{atRead}
 use Rattle.events.proofs.Given.{read-gives}
 use Rattle.benchlog.specs.Answers.{foundNumber, beginsNumber, roomNumber}
 use Rattle.benchlog.specs.Reader.{nextOf, versionReadAs, versionRows, readAt, readHead, foundIn, readVersion}
-use Rattle.benchlog.specs.Whole.{AllRead, andThen, readFrom, behindVersion, readLog, logNumber}
+use Rattle.benchlog.specs.Walk.{item, none, walk, behindVersion, walkLog}
+use Rattle.benchlog.specs.Whole.{lookRecord, readLog}
 use Rattle.benchlog.specs.Writer.{roomFor, writtenAs, written, placed, placedAs, outAfter}
 use Rattle.benchlog.specs.declared.Begins.{Begins}
 use Rattle.benchlog.specs.declared.Begins.the-variants as begins
@@ -32,6 +32,7 @@ use Rattle.benchlog.specs.declared.Read.{Read}
 use Rattle.benchlog.specs.declared.Room.{Room}
 use Rattle.benchlog.specs.declared.Room.the-variants as room
 use Rattle.benchlog.proofs.Heads.{found-stands, stands-whole}
+use Rattle.benchlog.proofs.Walks.{walked, look-record, none-cases, records-within}
 use Rattle.paper.specs.Refused.{isReservedWrite, isDetectorWrite, isPowerModeWrite, isTestOrTrimWrite}
 use Rattle.paper.specs.Samples.{allInside}
 use Rattle.outcomes.specs.LogNumbers.{EmptyLog, NotVersionOne, KindOfLength, WrongRecordLength, BodyCut, RightKind, CutAt, WrongAt, RightAt, spelled}
@@ -216,48 +217,41 @@ from-one s n m (behind-record some p rest) (at-end f q) = absurd (some f)
 from-one s n m (behind-record some p rest) (at-refusal k q) = absurd (k (place-one s m 0 q p))
 from-one s n m (behind-record some p rest) (behind-record also q others) = from-one (drop (2 + recordLength s) s) n m rest others
 
-from-due : (log : List ℕ) (k place : ℕ) → length log ≤ place + k → DueFrom (drop place log) (foundNumber (readFrom k log place .last))
-from-due log zero place h =
-    let nothing-left : drop place log ≡ [] = drop-of-length-le log {i = place} (omega arith) in
-    at-end nothing-left (ap foundNumber (logs.end-when log place .1 nothing-left))
-from-due log (suc k) place h = go (readAt log place .found) refl (from-due log k (readAt log place .next))
-  where
-    rest : AllRead
-    rest = readFrom k log (readAt log place .next)
+-- what is found there, or that nothing is
+due-as : (bytes : List ℕ) {f : Found} → readAt bytes 0 .found ≡ f → DueAtPlace bytes (foundNumber f)
+due-as bytes q = subst (λ (f : Found). DueAtPlace bytes (foundNumber f)) q (found-due bytes 0)
 
-    due-as : {f : Found} → readAt log place .found ≡ f → DueAtPlace (drop place log) (foundNumber f)
-    due-as q = subst (λ (f : Found). DueAtPlace (drop place log) (foundNumber f)) q (found-due log place)
+none-due : (bytes : List ℕ) (number : ℕ) → lookRecord bytes ≡ none number → DueFrom bytes number
+none-due bytes number q =
+    none-cases (DueFrom bytes) bytes number q
+    (λ end. at-end (logs.end-when bytes 0 .0 end) refl)
+    (λ wrong. at-refusal (λ e. omega arith) (due-as bytes wrong))
+    (λ cut. at-refusal (λ e. omega arith) (due-as bytes cut))
 
-    On : Type 0
-    On = length log ≤ readAt log place .next + k → DueFrom (drop (readAt log place .next) log) (foundNumber (rest .last))
+record-due : (bytes : List ℕ) (e : Entry) (n : ℕ) → lookRecord bytes ≡ item e n → {stop : ℕ} → DueFrom (drop n bytes) stop → DueFrom bytes stop
+record-due bytes e n q {stop} behind =
+    let r = look-record bytes e n q in
+    let stands = found-stands 0 bytes e (r .0) in
+    let long = stands .long in
+    let next : readAt bytes 0 .next ≡ 0 + (2 + recordLength bytes) = ap (λ (a : Read). a .next) (stands-whole 0 bytes stands) in
+    let same : n ≡ 2 + recordLength bytes = omega (arith, r .1, next) in
+    let some : bytes ≢ [] = λ none-left. let z = ap length none-left in omega arith in
+    behind-record some (due-as bytes (r .0)) (subst (λ (k : ℕ). DueFrom (drop k bytes) stop) same behind)
 
-    behind : (e : Entry) → readAt log place .found ≡ found.Record e → On → DueFrom (drop place log) (foundNumber (rest .last))
-    behind e q on =
-        let s = drop place log in
-        let stands = found-stands place s e q in
-        let long = stands .long in
-        let next : readAt log place .next ≡ place + (2 + recordLength s) = ap (λ (r : Read). r .next) (stands-whole place s stands) in
-        let there = subst (λ (p : ℕ). DueFrom (drop p log) (foundNumber (rest .last))) next (on (omega arith)) in
-        let some : s ≢ [] = λ none. let z = ap length none in omega arith in
-        behind-record some (due-as q) (subst (λ (l : List ℕ). DueFrom l (foundNumber (rest .last))) (sym (drop-drop (2 + recordLength s) place log)) there)
-
-    go : (f : Found) → readAt log place .found ≡ f → On → DueFrom (drop place log) (foundNumber (andThen f rest .last))
-    go (found.Record e) q on = behind e q on
-    go found.End q on = at-end (logs.end-when log place .0 q) refl
-    go found.WrongRecord q on = at-refusal {n = 8} (λ e. omega arith) (due-as q)
-    go found.Cut q on = at-refusal {n = 9} (λ e. omega arith) (due-as q)
+from-due : (bytes : List ℕ) → DueFrom bytes (walk lookRecord bytes .stop)
+from-due = walked lookRecord records-within (λ bytes w. DueFrom bytes (w .stop)) none-due (λ bytes e n q behind. record-due bytes e n q behind)
 
 -- a whole log
 log-one : (log : List ℕ) → One (DueOfLog log)
 log-one log = test-one (test-one (from-one (drop 1 log)))
 
-log-due : (log : List ℕ) → DueOfLog log (logNumber (readLog log))
-unfolding readLog readVersion
+log-due : (log : List ℕ) → DueOfLog log (readLog log .stop)
+unfolding walkLog readVersion
 log-due log = go (first begins.Version (versionRows log)) (logs.log-9 log) (logs.log-7 log)
   where
     go : (b : Begins) → (beginsNumber (versionReadAs b .begins) ≡ 9) ↔ EmptyLog log → (beginsNumber (versionReadAs b .begins) ≡ 7) ↔ NotVersionOne log
-        → DueOfLog log (logNumber (behindVersion (versionReadAs b .begins) (readFrom (length log) log (versionReadAs b .next))))
-    go begins.Version nine seven = inr (λ p. let z = nine .1 p in omega arith, inr (λ p. let z = seven .1 p in omega arith, from-due log (length log) 1 (omega arith)))
+        → DueOfLog log (behindVersion (versionReadAs b .begins) (walk lookRecord (drop (versionReadAs b .next) log)) .stop)
+    go begins.Version nine seven = inr (λ p. let z = nine .1 p in omega arith, inr (λ p. let z = seven .1 p in omega arith, from-due (drop 1 log)))
     go begins.WrongVersion nine seven = inr (λ p. let z = nine .1 p in omega arith, inl (refl, seven .0 refl))
     go begins.Empty nine seven = inl (refl, nine .0 refl)
 

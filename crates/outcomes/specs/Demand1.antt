@@ -12,7 +12,7 @@ use Rattle.events.specs.Run.{next}
 use Rattle.events.specs.Views.{atRead}
 use Rattle.benchlog.specs.Answers.{foundNumber, beginsNumber, roomNumber}
 use Rattle.benchlog.specs.Reader.{readAt, readVersion}
-use Rattle.benchlog.specs.Whole.{readLog, logNumber}
+use Rattle.benchlog.specs.Whole.{readLog}
 use Rattle.benchlog.specs.Writer.{written, outAfter}
 use Rattle.benchlog.specs.declared.Entry.{Entry}
 use Rattle.outcomes.specs.Numbers.{AboveLast, ReservedWrite, DetectorWrite, PowerModeWrite, TestOrTrimWrite, SomeOutside, WrongReadLength, PassesEnd}
@@ -106,7 +106,7 @@ pub record Demand1 : Type 0 where
   pub at-start : (log : List ℕ) → Tabled ℕ (DueAtStart log) (beginsNumber (readVersion log .begins)) 0 (readVersion log .next)
   pub at-place : (log : List ℕ) (place : ℕ) → Tabled ℕ (DueAtPlace (drop place log)) (foundNumber (readAt log place .found)) place (readAt log place .next)
   -- "every log, however damaged": the number that it is answered when it is read from its start
-  pub of-log : (log : List ℕ) (n : ℕ) → (logNumber (readLog log) ≡ n) ↔ DueOfLog log n
+  pub of-log : (log : List ℕ) (n : ℕ) → (readLog log .stop ≡ n) ↔ DueOfLog log n
   -- 10, "too little room to write a version byte or record", in lent bytes of any length from any place on: the bytes, and the next place
   pub version-room : (out : List ℕ) (place : ℕ)
       → let w = written out place (1 ∷ []) in

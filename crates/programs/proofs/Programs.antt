@@ -8,13 +8,14 @@ use mathlib.Core.Path.{_≡_, refl, sym, ap, _∙_}
 use native.Mathlib.Omega.{arith}
 use borrow.Author.Tests.{eqb-true, eqb-false, le-ltb}
 use lib.Dec.{eqb}
-use lib.ListN.{getD}
+use lib.ListN.{getD, drop}
 use Rattle.laws.specs.Choice.{pick}
-use Rattle.benchlog.specs.Answers.{foundNumber}
-use Rattle.benchlog.specs.Whole.{LogRead, noVersion, versioned, readLog, logNumber}
+use Rattle.benchlog.specs.Reader.{readVersion}
+use Rattle.benchlog.specs.Walk.{walk, behindVersion, walkLog}
+use Rattle.benchlog.specs.Whole.{lookRecord, readLog}
+use Rattle.benchlog.specs.declared.Begins.{Begins}
 use Rattle.benchlog.specs.declared.Begins.the-variants as begins
-use Rattle.benchlog.specs.declared.Found.{Found}
-use Rattle.benchlog.specs.declared.Found.the-variants as found
+use Rattle.benchlog.proofs.Walks.{walked, records-within, none-cases}
 use Rattle.follow.specs.Whole.{printedFrom, stopper}
 use Rattle.follow.proofs.Whole.{log-number}
 use Rattle.text.specs.Text.{decimal, lastDigits}
@@ -70,17 +71,20 @@ digit-is NotRead = refl
 digit-is NotWritten = refl
 
 -- ---- a log that is refused is refused by one of three numbers
-found-listed : (f : Found) → (foundNumber f ≡ 0 → ⊥) → (foundNumber f ≡ 8) ⊎ (foundNumber f ≡ 9)
-found-listed (found.Record e) some = absurd (some refl)
-found-listed found.End some = absurd (some refl)
-found-listed found.WrongRecord some = inl refl
-found-listed found.Cut some = inr refl
+abbrev Listed : ℕ → Type 0
+Listed n = (n ≡ 0) ⊎ ((n ≡ 7) ⊎ ((n ≡ 8) ⊎ (n ≡ 9)))
 
-refused-listed : (read : LogRead) → (logNumber read ≡ 0 → ⊥) → (logNumber read ≡ 7) ⊎ ((logNumber read ≡ 8) ⊎ (logNumber read ≡ 9))
-refused-listed (noVersion begins.Version) some = absurd (some refl)
-refused-listed (noVersion begins.WrongVersion) some = inl refl
-refused-listed (noVersion begins.Empty) some = inr (inr refl)
-refused-listed (versioned all) some = inr (found-listed (all .last) some)
+log-listed : (log : List ℕ) → Listed (readLog log .stop)
+unfolding walkLog
+log-listed log = go (readVersion log .begins)
+  where
+    go : (b : Begins) → Listed (behindVersion b (walk lookRecord (drop (readVersion log .next) log)) .stop)
+    go begins.Version =
+        walked lookRecord records-within (λ bytes w. Listed (w .stop))
+        (λ bytes number q. none-cases Listed bytes number q (λ _. inl refl) (λ _. inr (inr (inl refl))) (λ _. inr (inr (inr refl))))
+        (λ bytes e n q behind. behind) _
+    go begins.WrongVersion = inr (inl refl)
+    go begins.Empty = inr (inr (inr refl))
 
 -- ---- of a pump that begins before the version byte
 module _ (printed : List ℕ → List ℕ) (job : Job) (off : worker .begun job ≡ false) where
@@ -89,7 +93,7 @@ module _ (printed : List ℕ → List ℕ) (job : Job) (off : worker .begun job 
     refusal = f .refusal
 
     abbrev number : ℕ
-    number = logNumber (readLog log)
+    number = readLog log .stop
 
     status-is : statusOf how ≡ statusOf (Stopped refusal)
     status-is = ap statusOf (f .how-is)
@@ -118,15 +122,16 @@ module _ (printed : List ℕ → List ℕ) (job : Job) (off : worker .begun job 
     refused-is : (statusOf how ≡ 3) ↔ (DueOfLog log 7 ⊎ (DueOfLog log 8 ⊎ DueOfLog log 9))
     refused-is = (λ e. go (stopped-status refusal (eqb refusal 0) refl) e, back)
       where
-        by-number : (number ≡ 7) ⊎ ((number ≡ 8) ⊎ (number ≡ 9)) → DueOfLog log 7 ⊎ (DueOfLog log 8 ⊎ DueOfLog log 9)
-        by-number (inl e) = inl (due 7 e)
-        by-number (inr (inl e)) = inr (inl (due 8 e))
-        by-number (inr (inr e)) = inr (inr (due 9 e))
+        by-number : (number ≡ 0 → ⊥) → Listed number → DueOfLog log 7 ⊎ (DueOfLog log 8 ⊎ DueOfLog log 9)
+        by-number some (inl e) = absurd (some e)
+        by-number some (inr (inl e)) = inl (due 7 e)
+        by-number some (inr (inr (inl e))) = inr (inl (due 8 e))
+        by-number some (inr (inr (inr e))) = inr (inr (due 9 e))
 
         go : ((refusal ≡ 0) × (statusOf (Stopped refusal) ≡ 0)) ⊎ ((refusal ≡ 0 → ⊥) × (statusOf (Stopped refusal) ≡ 3)) → statusOf how ≡ 3
             → DueOfLog log 7 ⊎ (DueOfLog log 8 ⊎ DueOfLog log 9)
         go (inl p) e = let z = sym (p .1) ∙ sym status-is ∙ e in absurd (omega arith)
-        go (inr p) e = by-number (refused-listed (readLog log) (λ z. p .0 (sym number-is ∙ z)))
+        go (inr p) e = by-number (λ z. p .0 (sym number-is ∙ z)) (log-listed log)
 
         back : DueOfLog log 7 ⊎ (DueOfLog log 8 ⊎ DueOfLog log 9) → statusOf how ≡ 3
         back (inl is) = rw (status-is, ← only 7 is)

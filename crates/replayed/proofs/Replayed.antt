@@ -18,7 +18,8 @@ use Rattle.events.specs.Run.{after}
 use Rattle.events.proofs.Given.{read-gives}
 use Rattle.demand2.proofs.Demand2.{demand2}
 use Rattle.demand2.proofs.Watermark.{watermark}
-use Rattle.replayed.specs.Lines.{lettersIf, lineText}
+use Rattle.recorded.specs.Recorded.{Recorded, eventsOf, beforeOwn}
+use Rattle.replayed.specs.Lines.{lettersIf, lineText, givenBy}
 use Rattle.replayed.specs.Replayed.{Demanded}
 use Rattle.replayed.proofs.Lines.{line-of}
 
@@ -46,16 +47,20 @@ no-bytes d (clock us) h = refl
 
 module _ (pins : Bool) (log : List ℕ) where
   -- a line by what its event gives
-  abbrev lineBy : List Event → Event → Given → List ℕ
-  lineBy es e g = lineText (suc (length es)) (g .number) (g .bytes) (lettersIf pins (e ∷ es))
+  abbrev lineBy : Recorded → List Recorded → Given → List ℕ
+  lineBy r rs g = lineText (suc (length rs)) (g .number) (g .bytes) (lettersIf pins (eventsOf (r ∷ rs)))
+
+  -- where the event is this one
+  given-of : (r : Recorded) (rs : List Recorded) {e : Event} {g : Given} → r .own ≡ e → gives (after (beforeOwn r rs)) e ≡ g → lineBy r rs (givenBy r rs) ≡ lineBy r rs g
+  given-of r rs own is = ap (lineBy r rs) (ap (gives (after (beforeOwn r rs))) own ∙ is)
 
   pub demanded : Demanded pins log
   demanded = record {
-    refused = λ later es e h no.
-        line-of pins log later es e h
-        ∙ ap (λ (bs : List ℕ). lineText (suc (length es)) (gives (after es) e .number) bs (lettersIf pins (e ∷ es))) (no-bytes (after es) e no);
-    ruled = λ later es h. demand2 es;
-    watermark = λ later es h. watermark es;
-    below = λ later es a n h burst. line-of pins log later es (read a n) h ∙ ap (lineBy es (read a n)) (demand2 es .below a n burst);
-    frames = λ later es n h some most. line-of pins log later es (read 0x3F n) h ∙ ap (lineBy es (read 0x3F n)) (demand2 es .frames n some most);
+    refused = λ later rs r h no.
+        line-of pins log later rs r h
+        ∙ ap (λ (bs : List ℕ). lineText (suc (length rs)) (givenBy r rs .number) bs (lettersIf pins (eventsOf (r ∷ rs)))) (no-bytes (after (beforeOwn r rs)) (r .own) no);
+    ruled = λ later rs h. demand2 (eventsOf rs);
+    watermark = λ later rs h. watermark (eventsOf rs);
+    below = λ later rs r a n h own burst. line-of pins log later rs r h ∙ given-of r rs own (demand2 (beforeOwn r rs) .below a n burst);
+    frames = λ later rs r n h own some most. line-of pins log later rs r h ∙ given-of r rs own (demand2 (beforeOwn r rs) .frames n some most);
   }

@@ -12,6 +12,7 @@ use Rattle.interrupts.specs.declared.Level.the-variants.{Low, High, Released}
 use Rattle.interrupts.specs.declared.Pins.{Pins}
 use Rattle.text.specs.Text.{ascii, decimal, space, newline, behindSpace, front, line, lineWithPins, letters, pinsLine}
 use Rattle.follow.specs.Whole.{joined}
+use Rattle.follow.proofs.Whole.{joined-append}
 use Rattle.playback.specs.Replay.{lineAs}
 use Rattle.replayed.specs.Lines.{twoLetters, lettersIf, bytesText, lineText, lastLine}
 
@@ -51,10 +52,6 @@ line-is true n answer bytes es =
 line-is false n answer bytes es = front-is n answer bytes (newline ∷ [])
 
 -- ---- lines one behind the other
-pub joined-append : (a b : List (List ℕ)) → joined (a ++ b) ≡ joined a ++ joined b
-joined-append [] b = refl
-joined-append (l ∷ a) b = ap (λ (t : List ℕ). l ++ t) (joined-append a b) ∙ sym (append-assoc l (joined a) (joined b))
-
 pub joined-last : (a : List (List ℕ)) (l : List ℕ) → joined (a ++ (l ∷ [])) ≡ joined a ++ l
 joined-last a l = joined-append a (l ∷ []) ∙ ap (λ (t : List ℕ). joined a ++ t) (append-nil l)
 

@@ -1,4 +1,4 @@
--- 01, "Bench log and replay": the events of a log. In a history the latest event stands first.
+-- 01, "Bench log and replay": a record's bytes as its event.
 use Prim.Native.Nat.{ℕ, _+_, _*_}
 use mathlib.Core.List.{List, [], _∷_, _++_}
 use mathlib.Core.Path.{_≡_}
@@ -7,28 +7,12 @@ use lib.ListN.{length, drop}
 use mir.Syntax.{w16}
 use mir.Val.{toZ}
 use Rattle.benchlog.specs.Reader.{readAt}
-use Rattle.benchlog.specs.Whole.{LogRead, noVersion, versioned, readLog}
 use Rattle.benchlog.specs.declared.Entry.{Entry}
 use Rattle.benchlog.specs.declared.Found.the-variants as found
 use Rattle.entries.specs.Entries.{eventOf}
 use Rattle.events.specs.Event as event
 use Rattle.events.specs.Event.{Event}
 
--- the records that are read of a log up to where it stops, in order
-abbrev pub recordsIn : LogRead → List Entry
-recordsIn (noVersion b) = []
-recordsIn (versioned all) = all .entries
-
--- a history with the events of records behind it
-abbrev pub eventsBehind : List Event → List Entry → List Event
-eventsBehind es [] = es
-eventsBehind es (r ∷ rs) = eventsBehind (eventOf r ∷ es) rs
-
--- all events of a log: a log begins at power-up
-unfoldable pub eventsOf : List ℕ → List Event
-eventsOf log = eventsBehind [] (recordsIn (readLog log))
-
--- ---- a record's bytes as its event
 -- where these bytes stand in a log, whatever follows them, a record is read, the next place is behind them, and its event is this
 pub record IsRecordOf (e : Event) (bytes : List ℕ) : Type 0 where
   pub entry : Entry

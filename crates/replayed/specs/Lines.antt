@@ -1,21 +1,19 @@
--- 01, "Bench log and replay": the lines of a log's replay, from its events alone. In a history the latest event stands first. pins says
--- whether the pins are to stand behind every record's line.
+-- 01, "Bench log and replay": the lines of a log's replay, from its records alone. In a history the latest stands first, of records as of
+-- events. pins says whether the pins are to stand behind every record's line.
 use Prim.Native.Nat.{ℕ, suc}
 use mathlib.Core.Bool.{Bool, true, false}
 use mathlib.Core.List.{List, [], _∷_, _++_}
+use lib.Dec.{eqb}
 use lib.ListN.{length}
-use Rattle.benchlog.specs.Whole.{LogRead, noVersion, versioned, readLog}
-use Rattle.benchlog.specs.declared.Begins.{Begins}
-use Rattle.benchlog.specs.declared.Begins.the-variants.{Version, WrongVersion, Empty}
-use Rattle.benchlog.specs.declared.Found.{Found}
-use Rattle.benchlog.specs.declared.Found.the-variants as found
+use Rattle.laws.specs.Choice.{pick}
+use Rattle.benchlog.specs.Whole.{readLog}
 use Rattle.device.specs.Show.{pinsOf}
-use Rattle.events.specs.Event.{Event, gives}
+use Rattle.events.specs.Event.{Event, Given, gives}
 use Rattle.events.specs.Run.{after}
 use Rattle.interrupts.specs.declared.Level.{Level}
 use Rattle.interrupts.specs.declared.Level.the-variants.{Low, High, Released}
 use Rattle.text.specs.Text.{ascii, decimal, hex}
-use Rattle.replayed.specs.Events.{eventsOf}
+use Rattle.recorded.specs.Recorded.{Recorded, eventsOf, beforeOwn, historyOf}
 
 -- ---- the pins
 -- "two letters among 0, 1, Z"
@@ -46,32 +44,24 @@ bytesText (b ∷ bs) = ascii " " ++ hex (b ∷ bs)
 abbrev pub lineText : ℕ → ℕ → List ℕ → List ℕ → List ℕ
 lineText number answer bytes letters = decimal number ++ (ascii " " ++ (decimal answer ++ (bytesText bytes ++ (letters ++ ascii "\n"))))
 
--- "per record": records are counted from 1. What its event gives after the events before it; the pins as they are behind it
-abbrev pub recordLine : Bool → List Event → Event → List ℕ
-recordLine pins es e = let g = gives (after es) e in lineText (suc (length es)) (g .number) (g .bytes) (lettersIf pins (e ∷ es))
+-- what a record's own event gives, after all that came before it
+abbrev pub givenBy : Recorded → List Recorded → Given
+givenBy r rs = gives (after (beforeOwn r rs)) (r .own)
+
+-- "per record": records are counted from 1; the pins as they are behind it
+abbrev pub recordLine : Bool → List Recorded → Recorded → List ℕ
+recordLine pins rs r = lineText (suc (length rs)) (givenBy r rs .number) (givenBy r rs .bytes) (lettersIf pins (eventsOf (r ∷ rs)))
 
 -- of every record, in order
-unfoldable pub recordLines : Bool → List Event → List (List ℕ)
+unfoldable pub recordLines : Bool → List Recorded → List (List ℕ)
 recordLines pins [] = []
-recordLines pins (e ∷ es) = recordLines pins es ++ (recordLine pins es e ∷ [])
+recordLines pins (r ∷ rs) = recordLines pins rs ++ (recordLine pins rs r ∷ [])
 
 -- ---- where the replay stops, after a history
--- "7, 8 and 9 stop the replay": 8 and 9 have the number of the record that failed; an end has no line
-abbrev pub stopBehind : Bool → Found → List Event → List (List ℕ)
-stopBehind pins (found.Record r) es = []
-stopBehind pins found.End es = []
-stopBehind pins found.WrongRecord es = lineText (suc (length es)) 8 [] (lettersIf pins es) ∷ []
-stopBehind pins found.Cut es = lineText (suc (length es)) 9 [] (lettersIf pins es) ∷ []
-
--- "A refusal 7 or empty input prints record 0"
-abbrev pub stopAtStart : Bool → Begins → List (List ℕ)
-stopAtStart pins Version = []
-stopAtStart pins WrongVersion = lineText 0 7 [] (lettersIf pins []) ∷ []
-stopAtStart pins Empty = lineText 0 9 [] (lettersIf pins []) ∷ []
-
-abbrev pub stopLines : Bool → LogRead → List Event → List (List ℕ)
-stopLines pins (noVersion b) es = stopAtStart pins b
-stopLines pins (versioned all) es = stopBehind pins (all .last) es
+-- "7, 8 and 9 stop the replay", each with the number of the record that failed; "A refusal 7 or empty input prints record 0": where a log
+-- does not begin with the version byte. An end has no line
+abbrev pub stopLines : Bool → Bool → ℕ → List Recorded → List (List ℕ)
+stopLines pins begun stop rs = pick (eqb stop 0) [] (lineText (pick begun (suc (length rs)) 0) stop [] (lettersIf pins (eventsOf rs)) ∷ [])
 
 -- "The last line is `pins` and two letters": the pins after all events that happened
 abbrev pub lastLine : List Event → List ℕ
@@ -79,4 +69,6 @@ lastLine es = ascii "pins" ++ (pinLetters es ++ ascii "\n")
 
 -- ---- all lines of a log
 unfoldable pub linesIn : Bool → List ℕ → List (List ℕ)
-linesIn pins log = let es = eventsOf log in recordLines pins es ++ (stopLines pins (readLog log) es ++ (lastLine es ∷ []))
+linesIn pins log =
+    let rs = historyOf log in
+    recordLines pins rs ++ (stopLines pins (readLog log .begun) (readLog log .stop) rs ++ (lastLine (eventsOf rs) ∷ []))

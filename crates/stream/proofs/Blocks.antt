@@ -13,8 +13,10 @@ use lib.ListN.{length, drop}
 use Rattle.follow.specs.Follow.{runOf}
 use Rattle.follow.specs.Whole.{joined, printedFrom, stopper}
 use Rattle.follow.specs.declared.Next.the-variants.{Wait, Full, Stop}
+use Rattle.follow.proofs.Sources.{records-sound}
 use Rattle.follow.proofs.Stream.{waits, run-due}
 use Rattle.follow.proofs.Stops.{run-stops}
+use Rattle.follow.proofs.Whole.{joined-append}
 use Rattle.jobs.specs.Job.{worker}
 use Rattle.jobs.specs.declared.Job.{Job}
 use Rattle.jobs.proofs.Jobs.{works}
@@ -23,10 +25,6 @@ use Rattle.window.specs.declared.Window.{Window}
 use Rattle.window.proofs.Places.{unused-past}
 use Rattle.stream.specs.declared.State.{State}
 use Rattle.stream.specs.Pump.{pumpStart, ranOver, ranTo, ReadMore, Went, emptied, refilled, someOf, partIn, isNone, endIn, endSeen, TurnsDone, none, again, MayFollow}
-
-joined-append : (xs ys : List (List ℕ)) → joined (xs ++ ys) ≡ joined xs ++ joined ys
-joined-append [] ys = refl
-joined-append (x ∷ xs) ys = ap (λ (l : List ℕ). x ++ l) (joined-append xs ys) ∙ sym (append-assoc x (joined xs) (joined ys))
 
 joined-some : (part : List ℕ) → joined (someOf part) ≡ part
 joined-some [] = refl
@@ -74,7 +72,7 @@ module _ (said : Job → List ℕ → List ℕ) (counted : List ℕ → List ℕ
         (may′, full (s .job) (unused (s .window) buffer) rest (s .window .last) room may′ e ∙ rw (is, same, unused-past (s .window) (ranOver s buffer room .at) buffer))
     turn-said {s′} {buffer′} (refilled e r) rest may =
         let part = r .1 .part in
-        let off = waits worker works (s .job) (unused (s .window) buffer) (s .window .last) room e .0 in
+        let off = waits records-sound worker works (s .job) (unused (s .window) buffer) (s .window .last) room e .0 in
         let not-last : OpenTo s (joined (someOf part) ++ rest) = λ q. let f = sym q ∙ off in let z : _≡_ {A = ℕ} 0 1 = cc in absurd (omega arith) in
         let job-is : s′ .job ≡ ranOver s buffer room .state = ap (λ (t : State). t .job) (r .0) in
         let bytes-are : unused (s′ .window) buffer′ ≡ drop (ranOver s buffer room .at) (unused (s .window) buffer) ++ part = r .1 .bytes ∙ rw (unused-past (s .window) (ranOver s buffer room .at) buffer) in
@@ -117,16 +115,16 @@ module _ {job : Job} {n : ℕ} {parts blocks : List (List ℕ)} {s : State} {buf
   pub written-before : printedFrom worker job (joined parts ++ rest) ≡ joined blocks ++ printedFrom worker (s .job) (left ++ rest)
   written-before =
       turns-said (printedFrom worker) (λ b. b)
-      (λ j l rest last room may e. run-due worker works l rest last may j room e .0)
-      (λ j l rest last room may e. run-due worker works l rest last may j room e .0)
+      (λ j l rest last room may e. run-due records-sound worker works l rest last may j room e .0)
+      (λ j l rest last room may e. run-due records-sound worker works l rest last may j room e .0)
       done rest may
       ∙ ap (λ (l : List ℕ). l ++ printedFrom worker (s .job) (left ++ rest)) (all-counted blocks)
 
   stopped-later : printedFrom (stopper worker) job (joined parts ++ rest) ≡ printedFrom (stopper worker) (s .job) (left ++ rest)
   stopped-later =
       turns-said (printedFrom (stopper worker)) (λ b. [])
-      (λ j l rest last room may e. run-stops worker works l rest last may j room e)
-      (λ j l rest last room may e. run-stops worker works l rest last may j room e)
+      (λ j l rest last room may e. run-stops records-sound worker works l rest last may j room e)
+      (λ j l rest last room may e. run-stops records-sound worker works l rest last may j room e)
       done rest may
       ∙ ap (λ (l : List ℕ). l ++ printedFrom (stopper worker) (s .job) (left ++ rest)) (none-counted blocks)
 
@@ -139,18 +137,18 @@ module _ {job : Job} {n : ℕ} {parts blocks : List (List ℕ)} {s : State} {buf
 
     -- with the last block it is the whole of it, where the run stops
     pub written-all : ranOver s buffer room .next ≡ Stop → joined (blocks ++ (text ∷ [])) ≡ printedFrom worker job (joined parts ++ rest)
-    written-all e = with-last ∙ ap (λ (l : List ℕ). joined blocks ++ l) (sym (run-due worker works left rest (s .window .last) may (s .job) room e)) ∙ sym written-before
+    written-all e = with-last ∙ ap (λ (l : List ℕ). joined blocks ++ l) (sym (run-due records-sound worker works left rest (s .window .last) may (s .job) room e)) ∙ sym written-before
 
     -- and where it waits, a longer beginning
     pub written-with : ranOver s buffer room .next ≡ Wait → (later : List ℕ) × (printedFrom worker job (joined parts ++ rest) ≡ joined (blocks ++ (text ∷ [])) ++ later)
     written-with e = (
       _,
       written-before
-          ∙ ap (λ (l : List ℕ). joined blocks ++ l) (run-due worker works left rest (s .window .last) may (s .job) room e .0)
+          ∙ ap (λ (l : List ℕ). joined blocks ++ l) (run-due records-sound worker works left rest (s .window .last) may (s .job) room e .0)
           ∙ sym (append-assoc (joined blocks) text _)
           ∙ ap (λ (l : List ℕ). l ++ printedFrom worker (ranOver s buffer room .state) (drop (ranOver s buffer room .at) left ++ rest)) (sym with-last),
     )
 
     -- what stops the last run stops the log
     pub stopped-by : ranOver s buffer room .next ≡ Stop → printedFrom (stopper worker) job (joined parts ++ rest) ≡ ranOver s buffer room .refusal ∷ []
-    stopped-by e = stopped-later ∙ run-stops worker works left rest (s .window .last) may (s .job) room e
+    stopped-by e = stopped-later ∙ run-stops records-sound worker works left rest (s .window .last) may (s .job) room e

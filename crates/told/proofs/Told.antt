@@ -1,33 +1,33 @@
 -- What the answer prints of a log is what the histories say of it.
 -- Assumes nothing.
-use Prim.Native.Nat.{ℕ, zero, suc, _+_, _-_, _^_, _≤_, _<_}
+use Prim.Native.Nat.{ℕ, suc, _+_, _-_, _^_, _≤_, _<_}
 use mathlib.Core.Bool.{Bool, true, false}
 use mathlib.Core.List.{List, [], _∷_, _++_, append-assoc}
 use mathlib.Core.Path.{_≡_, refl, sym, ap, _∙_}
 use native.Mathlib.Omega.{arith}
 use lib.Dec.{eqb, ltb}
-use lib.ListN.{length, drop, length-drop}
+use lib.ListN.{length, drop}
 use lib.Seq.{drop-nil}
 use borrow.Author.Tests.{eqb-true, eqb-false, ltb-true, ltb-false, lt-ltb, le-ltb}
 use Rattle.laws.specs.Choice.{pick}
 use Rattle.laws.proofs.Finite.{of-pick}
-use Rattle.benchlog.specs.Reader.{readAt, readVersion}
+use Rattle.benchlog.specs.Reader.{readVersion}
+use Rattle.benchlog.specs.Walk.{Walked, walk, behindVersion, walkLog}
+use Rattle.benchlog.specs.Whole.{lookRecord}
 use Rattle.benchlog.specs.declared.Begins.{Begins}
 use Rattle.benchlog.specs.declared.Begins.the-variants as begins
 use Rattle.benchlog.specs.declared.Entry.{Entry}
-use Rattle.benchlog.specs.declared.Found.{Found}
-use Rattle.benchlog.specs.declared.Found.the-variants as found
-use Rattle.benchlog.proofs.Heads.{next-behind}
+use Rattle.benchlog.proofs.Logs.{few-records}
 use Rattle.events.specs.Run.{after}
 use Rattle.entries.specs.Entries.{eventOf}
-use Rattle.recorded.specs.Recorded.{Recorded, recordOf, eventsOf, beforeOwn, answerTo}
-use Rattle.follow.specs.Whole.{linesAs, linesOf, begunAs, printedFrom}
+use Rattle.recorded.specs.Recorded.{Recorded, recordOf, eventsOf, beforeOwn, answerTo, recordsBehind, historyOf}
+use Rattle.follow.specs.Whole.{textOf, textOfLog, printedFrom}
 use Rattle.counts.specs.Counts.{ends}
 use Rattle.stretches.specs.Histories.{accountOf, whyWith, isEnd, lastEnd}
 use Rattle.stretches.proofs.Histories.{account-first, account-next, why-is}
 use Rattle.stretches.proofs.Stretches.{ends-is}
 use Rattle.answers.specs.Answer.{start, at, recordText, markAfter, answerer, printed}
-use Rattle.told.specs.Histories.{recordsAs, recordsOnto, stopAs, stopIn, atMark, toldOf, endOf, toldAs, told}
+use Rattle.told.specs.Histories.{atMark, toldOf, endOf, told}
 use Rattle.answers.specs.declared.Answering.{Answering}
 use Rattle.answers.specs.declared.Asked.{Asked}
 use Rattle.answers.specs.declared.Asked.the-variants.{Stretches, Modes, Samples, Between, Whole}
@@ -97,50 +97,21 @@ module _ (asked : Asked) (rs : List Recorded) (e : Entry) (room : suc (length rs
   unfolding after
   answering-text = rw (account-next rs (recordOf e) room, why-is (eventsOf rs) (eventOf e))
 
-  -- a record's text is the next part of what is told
-  record-told : (k : ℕ) (rest : List ℕ)
-      → toldOf asked rs ++ (answerer .text (answeringOf asked rs) e ++ linesOf answerer k (answerer .next (answeringOf asked rs) e) rest)
-      ≡ toldOf asked (recordOf e ∷ rs) ++ linesOf answerer k (answeringOf asked (recordOf e ∷ rs)) rest
-  unfolding toldOf
-  record-told k rest =
-      sym (append-assoc (toldOf asked rs) _ _) ∙ (λ i. (toldOf asked rs ++ answering-text i) ++ linesOf answerer k (answering-next i) rest)
-
 -- ---- the lines
 -- all that is told: of the records of a history, and where the log stops behind them
 abbrev wholeOf : Asked → List Recorded → ℕ → List ℕ
-wholeOf asked rs refusal = toldOf asked rs ++ endOf asked true rs refusal
+wholeOf asked rs stop = toldOf asked rs ++ endOf asked true rs stop
 
--- what is told of a history, and then printed of the bytes that are left, is what is told of all records. k and j are more than the bytes'
--- count
-abbrev pub LinesTold : Asked → ℕ → ℕ → Type 0
-LinesTold asked k j = (rs : List Recorded) (bytes : List ℕ) → length bytes < k → length bytes < j → length rs + length bytes < 2 ^ 64
-    → toldOf asked rs ++ linesOf answerer k (answeringOf asked rs) bytes ≡ wholeOf asked (recordsOnto j rs bytes) (stopIn j bytes)
-
--- by what is found at the head of the bytes
-lines-step : (asked : Asked) (k j : ℕ) → LinesTold asked k j → LinesTold asked (suc k) (suc j)
-unfolding linesOf recordsOnto stopIn
-lines-step asked k j later rs bytes h g room = go (readAt bytes 0 .found) refl
-  where
-    rest : List ℕ
-    rest = drop (readAt bytes 0 .next) bytes
-
-    go : (f : Found) → readAt bytes 0 .found ≡ f
-        → toldOf asked rs ++ linesAs answerer f (answeringOf asked rs) (λ s. linesOf answerer k s rest)
-        ≡ wholeOf asked (recordsAs f rs (λ rs′. recordsOnto j rs′ rest)) (stopAs f (stopIn j rest))
-    go (found.Record e) q =
-        let b = next-behind 0 bytes e q in
-        let l : length rest ≡ length bytes - readAt bytes 0 .next = length-drop (readAt bytes 0 .next) bytes in
-        let more : suc (length rs) < 2 ^ 64 = omega (arith, b .0, b .1) in
-        record-told asked rs e more k rest
-        ∙ later (recordOf e ∷ rs) rest (omega (arith, b .0, b .1)) (omega (arith, b .0, b .1)) (omega (arith, b .0, b .1))
-    go found.End q = refl
-    go found.WrongRecord q = refl
-    go found.Cut q = refl
-
-pub lines-told : (asked : Asked) (k j : ℕ) → LinesTold asked k j
-lines-told asked zero j rs bytes h g room = absurd (omega arith)
-lines-told asked (suc k) zero rs bytes h g room = absurd (omega arith)
-lines-told asked (suc k) (suc j) rs bytes h g room = lines-step asked k j (lines-told asked k j) rs bytes h g room
+-- what is told of a history, and then printed of the records behind it, is what is told of all
+pub lines-told : (asked : Asked) (es : List Entry) (stop : ℕ) (rs : List Recorded) → length rs + length es < 2 ^ 64
+    → toldOf asked rs ++ textOf answerer (answeringOf asked rs) es stop ≡ wholeOf asked (recordsBehind rs es) stop
+unfolding textOf toldOf
+lines-told asked [] stop rs room = refl
+lines-told asked (e ∷ es) stop rs room =
+    let few : suc (length rs) < 2 ^ 64 = omega arith in
+    sym (append-assoc (toldOf asked rs) _ _)
+    ∙ (λ i. (toldOf asked rs ++ answering-text asked rs e few i) ++ textOf answerer (answering-next asked rs e few i) es stop)
+    ∙ lines-told asked es stop (recordOf e ∷ rs) (omega arith)
 
 -- ---- the whole log
 -- behind the version byte nothing has happened yet
@@ -149,23 +120,23 @@ unfolding start after
 begins-with asked = rw (no-mark asked, account-first)
 
 -- before it, the last line is the same
-ends-with : (asked : Asked) (refusal : ℕ) → answerer .last (start asked) refusal ≡ endOf asked false [] refusal
+ends-with : (asked : Asked) (stop : ℕ) → answerer .last (start asked) stop ≡ endOf asked false [] stop
 unfolding start
-ends-with asked refusal = rw (no-mark asked, account-first)
+ends-with asked stop = rw (no-mark asked, account-first)
 
 -- whatever is asked of a log, what is printed is what the histories say
 pub told-is : (asked : Asked) (log : List ℕ) → length log < 2 ^ 64 → printed asked log ≡ told asked log
-unfolding printedFrom told start toldOf
-told-is asked log room = go (readVersion log .begins) (drop (readVersion log .next) log) few
+unfolding printedFrom walkLog told historyOf start toldOf textOf
+told-is asked log room = go (readVersion log .begins) (few-records log)
   where
-    few : length (drop (readVersion log .next) log) ≤ length log
-    few = simp length-drop (omega arith)
+    walked : Walked Entry
+    walked = walk lookRecord (drop (readVersion log .next) log)
 
-    go : (b : Begins) (bytes : List ℕ) → length bytes ≤ length log
-        → begunAs answerer b (start asked) (linesOf answerer (suc (length log)) (answerer .begin (start asked)) bytes) ≡ toldAs b asked bytes
-    go begins.Version bytes less =
-        let whole : toldOf asked [] ++ linesOf answerer (suc (length log)) (answeringOf asked []) bytes ≡ toldAs begins.Version asked bytes
-        = lines-told asked (suc (length log)) (suc (length bytes)) [] bytes (omega arith) (omega arith) (omega arith) in
-        ap (λ s. linesOf answerer (suc (length log)) s bytes) (begins-with asked) ∙ whole
-    go begins.WrongVersion bytes less = ends-with asked _
-    go begins.Empty bytes less = ends-with asked _
+    go : (b : Begins) → length (behindVersion b walked .items) ≤ length log - 1 →
+        let l = behindVersion b walked in
+        let rs = recordsBehind [] (l .items) in
+        textOfLog answerer (start asked) l ≡ toldOf asked rs ++ endOf asked (l .begun) rs (l .stop)
+    go begins.Version few =
+        ap (λ s. textOf answerer s (walked .items) (walked .stop)) (begins-with asked) ∙ lines-told asked (walked .items) (walked .stop) [] (omega arith)
+    go begins.WrongVersion few = ends-with asked 7
+    go begins.Empty few = ends-with asked 9
