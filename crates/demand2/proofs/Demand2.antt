@@ -3,10 +3,9 @@
 use Prim.Native.Nat.{ℕ, _≤_}
 use mathlib.Core.Bool.{true, false}
 use mathlib.Core.List.{List, [], _∷_}
-use mathlib.Core.Path.{_≡_, sym, ap, subst, _∙_}
+use mathlib.Core.Path.{_≡_, subst, _∙_}
 use native.Mathlib.Omega.{arith}
 use lib.Dec.{eqb, ltb}
-use lib.ListN.{getD}
 use borrow.Author.Tests.{le-ltb, le-leb, ne-eqb}
 use Rattle.laws.specs.Bits.{bit}
 use Rattle.laws.specs.Keys.{_means_}
@@ -15,34 +14,26 @@ use Rattle.laws.proofs.Bytes.{length-zeros}
 use Rattle.fifo.specs.Flat.{flat, packed}
 use Rattle.fifo.specs.Ledger.{heldOf}
 use Rattle.interrupts.specs.Statuses.{statusesOf}
-use Rattle.detectors.specs.Detectors.{motionMarks}
 use Rattle.registers.specs.Answers.{accepted}
 use Rattle.registers.specs.Refused.{readAnswer}
-use Rattle.device.specs.Read.{byteFrom, readOf, burstBytes, bufferAfter}
-use Rattle.device.specs.Show.{shownByte, pinsOf}
-use Rattle.events.specs.Event.{Event, read, Given, bytes, gives}
+use Rattle.device.specs.Read.{readOf, burstBytes, bufferAfter}
+use Rattle.device.specs.Show.{pinsOf}
+use Rattle.events.specs.Event.{Event, read, bytes, gives}
 use Rattle.events.specs.Run.{after}
 use Rattle.paper.specs.Readouts.{readsOut}
 use Rattle.demand3.specs.Chip.{readOut}
 use Rattle.demand3.specs.Demand.{fates}
 use Rattle.history.specs.History.{accelerometer, saysHere, twin}
 use Rattle.history.proofs.Conserve.{demand3, device-holds}
-use Rattle.anymotion.specs.Marks.{marksByte}
 use Rattle.anymotion.proofs.Detector.{detector-is}
-use Rattle.anymotion.proofs.Promise.{reads-marks}
+use Rattle.anymotion.proofs.Promise.{marks-are}
 use Rattle.rules.specs.Rules.{status, Elsewhere, ruled, maps, isOne, someMapped, Leveled}
-use Rattle.rules.proofs.Bursts.{single}
 use Rattle.rules.proofs.Shown.{elsewhereIn}
 use Rattle.rules.proofs.Reading.{reads}
 use Rattle.rules.proofs.Pins.{pins}
 use Rattle.demand2.specs.Demand2.{elsewhere, Demand2}
 
 -- ---- what the device shows of the FIFO and of its detectors is what the events tell
--- the byte of 0x0B
-marks-are : (es : List Event) → motionMarks (after es .detectors) ≡ marksByte es
-unfolding byteFrom shownByte
-marks-are es = ap (λ (g : Given). getD (g .bytes) 0 0) (sym (single (after es) 0x0B (omega arith)) ∙ reads-marks es)
-
 pub elsewhere-is : (es : List Event) → elsewhereIn (after es) ≡ elsewhere es
 unfolding elsewhere packed statusesOf
 elsewhere-is es = λ i. record {

@@ -1,5 +1,6 @@
 pub mod InForce
 pub mod Seen
+pub mod Marks
 pub mod Parts
 pub mod Agrees
 pub mod Came

@@ -1,5 +1,5 @@
 -- The point that a slope detector of the device sees is 01's. Assumes nothing.
-use Prim.Native.Nat.{ℕ, _*_, _/_, _%_, _^_, _≤_}
+use Prim.Native.Nat.{ℕ, _*_, _/_, _%_, _^_, _<_, _≤_}
 use mathlib.Core.Bool.{Bool, true, false, not}
 use mathlib.Core.List.{List, [], _∷_}
 use mathlib.Core.Path.{_≡_, refl}
@@ -105,3 +105,22 @@ module _ (enabled threshold : ℕ) where
   pub one-or-none : (new : Signed) (olds : List Signed) → OneOrNone (pointOfTwo enabled threshold new olds)
   one-or-none new [] = tt
   one-or-none new (old ∷ olds) = picked OneOrNone (anyEnabled enabled) tt tt
+
+  -- "bits 2:0 (z, y, x)": a point marks one of three bits, or none
+  pub above-small : (old new : Signed) → firstMarked (aboveAmong enabled threshold (axesBetween old new)) .axis < 8
+  above-small old new = go (isAbove enabled threshold x) (isAbove enabled threshold y) (isAbove enabled threshold z)
+    where
+      x : AxisDifference
+      x = record { place = 0; difference = new .x -ℤ old .x }
+
+      y : AxisDifference
+      y = record { place = 1; difference = new .y -ℤ old .y }
+
+      z : AxisDifference
+      z = record { place = 2; difference = new .z -ℤ old .z }
+
+      go : (s t u : Bool) → firstMarked (pick s (x ∷ pick t (y ∷ pick u (z ∷ []) []) (pick u (z ∷ []) [])) (pick t (y ∷ pick u (z ∷ []) []) (pick u (z ∷ []) []))) .axis < 8
+      go true t u = omega arith
+      go false true u = omega arith
+      go false false true = omega arith
+      go false false false = omega arith

@@ -16,13 +16,6 @@ use Rattle.codes.specs.Axes.{axesOf}
 use Rattle.codes.specs.Range.{rangeOf}
 use Rattle.table.specs.Rows.{rowAt, merged, writable, theTable}
 use Rattle.channels.specs.Codes.{codes}
-use Rattle.alarm.specs.Alarm.{Marked}
-use Rattle.slopes.specs.Previous.{slopesTo}
-use Rattle.motion.proofs.Laws.{marked-quiet, marked-restart, marked-sample}
-use Rattle.motion.proofs.Clock.{marked-clock}
-use Rattle.motion.specs.declared.Motion.{Motion}
-use Rattle.detectors.specs.Detectors.{motionSettings, detectorsSampled, detectorsClocked, detectorsWritten}
-use Rattle.detectors.specs.declared.Detectors.{Detectors}
 use Rattle.fifo.specs.Flat.{Flat}
 use Rattle.fifo.specs.Setting.{depthIn}
 use Rattle.fifo.specs.Store.{emptied, room}
@@ -30,8 +23,7 @@ use Rattle.fifo.proofs.Bounds.{Deep}
 use Rattle.fifo.proofs.Store.{pushed-few, read-few}
 use Rattle.registers.specs.Answers.{accepted}
 use Rattle.registers.specs.Refused.{writeAnswer, answerAt, reservedCode, notModelled}
-use Rattle.registers.specs.Deeds.{isReset, judgement, clears}
-use Rattle.registers.specs.declared.Deeds.{Deeds}
+use Rattle.registers.specs.Deeds.{isReset, clears}
 use Rattle.registers.proofs.Verdicts.{control-accepted}
 use Rattle.device.specs.Device.{firstBytes, depth, flatOf}
 use Rattle.device.specs.Device as device
@@ -39,8 +31,8 @@ use Rattle.device.specs.Sample.{sampleAnswer, frameOf}
 use Rattle.events.specs.Event.{Event, powerUp, write, read, sample, cycle, clock}
 use Rattle.events.specs.Run.{after}
 use Rattle.events.specs.Bank.{bankNext}
-use Rattle.events.specs.Parts.{flatNext, detectorsNext, readsFrames}
-use Rattle.events.proofs.Parts.{regs-next, flat-next, detectors-next}
+use Rattle.events.specs.Parts.{flatNext, readsFrames}
+use Rattle.events.proofs.Parts.{regs-next, flat-next}
 use Rattle.events.proofs.Runs.{bank-is, bank-length, first-length}
 use Rattle.rules.specs.Proper.{LeftByWrite, Proper}
 use Rattle.paper.proofs.Writes.{isStored, byteWritten, byte-written, byte-next, fixed-next}
@@ -119,22 +111,6 @@ few-next regs long f p (sample x y z t) =
 few-next regs long f p cycle = p
 few-next regs long f p (clock us) = p
 
--- ---- the detector
-marked-next : (regs : List ℕ) (s : Detectors) → Marked (s .motion .alarm) → (e : Event) → Marked (detectorsNext regs e s .motion .alarm)
-unfolding detectorsWritten detectorsSampled detectorsClocked
-marked-next regs s h powerUp = marked-quiet
-marked-next regs s h (write a byte) = go (judgement regs a byte .deeds)
-  where
-    go : (e : Deeds) → Marked (detectorsWritten e s .motion .alarm)
-    go e =
-        picked (λ (k : Detectors). Marked (k .motion .alarm)) (e .resets) marked-quiet
-        (picked (λ (m : Motion). Marked (m .alarm)) (e .restarts .motion) (marked-restart (s .motion)) h)
-marked-next regs s h (read a n) = h
-marked-next regs s h (sample x y z t) =
-    picked (λ (k : Detectors). Marked (k .motion .alarm)) (accepted (sampleAnswer x y z)) (marked-sample (motionSettings regs) (slopesTo x y z (s .previous)) (s .motion) h) h
-marked-next regs s h cycle = h
-marked-next regs s h (clock us) = marked-clock us (s .motion) h
-
 -- ---- all of it
 proper-first : Proper device.powerUp
 unfolding device.powerUp
@@ -143,7 +119,6 @@ proper-first = record {
   fixed = λ a h w. refl;
   written = first-written;
   few = omega arith;
-  marked = refl;
 }
 
 proper-next : (es : List Event) → Proper (after es) → (e : Event) → Proper (after (e ∷ es))
@@ -158,7 +133,6 @@ proper-next es p e =
       fixed = λ a h w. rw r (fixed-next regs (p .long) e a w (p .fixed a h w));
       written = λ a h w. rw r (written-next regs (p .long) e a h w (p .written a h w));
       few = rw (f, r) (few-next regs (p .long) (flatOf d) (p .few) e);
-      marked = rw (detectors-next d e) (marked-next regs (d .detectors) (p .marked) e);
     }
 
 pub proper : (es : List Event) → Proper (after es)

@@ -1,6 +1,6 @@
 -- Demand 2: after any events from power-up on, every read below 0x3F that is accepted, of any length, gives what the rules of 01 say.
 -- Assumes nothing.
-use Prim.Native.Nat.{ℕ, zero, suc, _+_, _/_, _%_, _<_, _≤_}
+use Prim.Native.Nat.{ℕ, zero, suc, _+_, _/_, _<_, _≤_}
 use mathlib.Core.Bool.{Bool, true, false}
 use mathlib.Core.Path.{_≡_, refl, sym, ap, _∙_}
 use mathlib.Core.List.{List, [], _∷_}
@@ -10,7 +10,7 @@ use lib.ListN.{getD}
 use borrow.Author.Tests.{le-leb, leb-true}
 use Rattle.laws.specs.Choice.{pick, both}
 use Rattle.laws.specs.Lists.{isIn}
-use Rattle.laws.specs.Bits.{bit, worth}
+use Rattle.laws.specs.Bits.{bit}
 use Rattle.laws.proofs.Finite.{at-any}
 use Rattle.codes.specs.Addresses.{enablesAt, levelAt, controlAt}
 use Rattle.codes.specs.Mode.{modeOf, isReservedMode}
@@ -19,13 +19,10 @@ use Rattle.fifo.specs.Setting.{depthIn}
 use Rattle.fifo.specs.Store.{countAt}
 use Rattle.fifo.proofs.Bounds.{depth-most}
 use Rattle.fifo.proofs.Store.{count-few}
-use Rattle.alarm.specs.Alarm.{Marked}
-use Rattle.alarm.proofs.Laws.{marked-small, marks-whole}
-use Rattle.alarm.proofs.Laws as alarm
 use Rattle.interrupts.specs.Statuses.{reached, statusesOf}
 use Rattle.interrupts.specs.Maps.{allStatuses, statusByte}
 use Rattle.interrupts.specs.declared.Statuses.{Statuses}
-use Rattle.detectors.specs.Detectors.{motionStatus}
+use Rattle.detectors.specs.Detectors.{motionStatus, motionMarks}
 use Rattle.device.specs.Device.{depth, reg}
 use Rattle.device.specs.Show.{insideOf, statusesIn, shownByte}
 use Rattle.device.specs.Read.{byteFrom, singleByte}
@@ -92,9 +89,6 @@ module _ (es : List Event) where
       let mode = modeOf (reg (after es) controlAt) in
       reached-is (after es .fifo .count) (depthIn depth mode) (reg (after es) levelAt) (proper es .few) (depth-most deep mode)
 
-  mark-small : after es .detectors .motion .alarm .mark < 8
-  mark-small = marked-small (after es .detectors .motion .alarm) (proper es .marked)
-
   -- the statuses of the device
   abbrev pub statusesNow : Statuses
   statusesNow = statusesIn (after es .regs) (insideOf (after es))
@@ -141,17 +135,10 @@ module _ (es : List Event) where
   unfolding byteFrom shownByte
   reads-temperature = single (after es) 0x08 (omega arith) ∙ rw (temperature-is es)
 
-  -- "0x0B bits 2:0 (z, y, x) mark the first over axis .., and bit 3 is 1 for a negative difference": the mark is 1, 2 or 4 while the
-  -- status is set, and 0 else
-  pub reads-marks : let a = after es .detectors .motion .alarm in (gives (after es) (read 0x0B 1) ≡ bytes ((a .mark + worth 8 (a .negative)) ∷ [])) × Marked a
+  -- "0x0B bits 2:0 (z, y, x) mark the first over axis .., and bit 3 is 1 for a negative difference"
+  pub reads-marks : gives (after es) (read 0x0B 1) ≡ bytes (motionMarks (after es .detectors) ∷ [])
   unfolding byteFrom shownByte
-  reads-marks = (single (after es) 0x0B (omega arith) ∙ rw (marks-whole (after es .detectors .motion .alarm) (mark-small es)), proper es .marked)
-
-  -- its bits
-  pub marks-apart : let a = after es .detectors .motion .alarm in let v = a .mark + worth 8 (a .negative) in (bit 3 v ≡ a .negative) × (v % 8 ≡ a .mark) × (v < 16)
-  marks-apart =
-      let a = after es .detectors .motion .alarm in
-      rw (← marks-whole a (mark-small es)) (alarm.marks-apart a (mark-small es))
+  reads-marks = single (after es) 0x0B (omega arith)
 
 -- ---- what a recorder sees, bit by bit: whatever else the byte shows
 module _ (es : List Event) where
@@ -182,10 +169,3 @@ module _ (es : List Event) where
     where
       of : (k : ℕ) → bitSeen es 0x0A k ≡ holdsAt 0x0A k (statusesBy (elsewhereIn (after es)) es)
       of k = status-seen 0x0A refl k ∙ ap (holdsAt 0x0A k) (statuses-are es)
-
-  -- "0x0B bits 2:0 (z, y, x) mark the first over axis .., and bit 3 is 1 for a negative difference"
-  pub marks-seen : let a = after es .detectors .motion .alarm in (bitSeen es 0x0B 3 ≡ a .negative) × (byteSeen es 0x0B % 8 ≡ a .mark)
-  unfolding byteFrom shownByte
-  marks-seen =
-      let m = alarm.marks-apart (after es .detectors .motion .alarm) (mark-small es) in
-      rw (seen 0x0B (omega arith)) (m .0, m .1)

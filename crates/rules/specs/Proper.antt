@@ -7,7 +7,6 @@ use lib.ListN.{length}
 use Rattle.codes.specs.Addresses.{controlAt}
 use Rattle.codes.specs.Mode.{modeOf}
 use Rattle.table.specs.Rows.{rowAt, merged, writable}
-use Rattle.alarm.specs.Alarm.{Marked}
 use Rattle.fifo.specs.Setting.{depthIn}
 use Rattle.registers.specs.Answers.{accepted}
 use Rattle.registers.specs.Refused.{writeAnswer}
@@ -29,5 +28,3 @@ pub record Proper (d : Device) : Type 0 where
   pub written : (a : ℕ) → a < 64 → writable a ≡ true → LeftByWrite a (reg d a)
   -- "The held frames never exceed the depth"
   pub few : d .fifo .count ≤ depthIn depth (modeOf (reg d controlAt))
-  -- "0x0B bits 2:0 (z, y, x) mark the first over axis"; "The marks clear with the status"
-  pub marked : Marked (d .detectors .motion .alarm)
