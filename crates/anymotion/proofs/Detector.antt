@@ -12,6 +12,7 @@ use Rattle.slopes.specs.Previous.{slopesTo}
 use Rattle.slopes.specs.Runs.{runsAfter}
 use Rattle.motion.specs.Detector.{afterPoint, afterSample, restarted}
 use Rattle.motion.specs.declared.Motion.{Motion}
+use Rattle.motion.specs.declared.Settings.{Settings}
 use Rattle.motion.proofs.Clock.{byPoints, asDetector, ofDetector, clock-as}
 use Rattle.registers.specs.Deeds.{deedsOf, judgement}
 use Rattle.registers.specs.declared.Deeds.{Deeds}
@@ -20,7 +21,10 @@ use Rattle.detectors.specs.declared.Detectors.{Detectors}
 use Rattle.events.specs.Event.{Event}
 use Rattle.events.specs.Run.{after}
 use Rattle.events.specs.Bank.{bank}
-use Rattle.lookback.specs.InForce.{inForce, isAccepted, timeAsked, Signed}
+use Rattle.paper.specs.Stored.{byteBy, isAccepted}
+use Rattle.paper.specs.Samples.{Values}
+use Rattle.paper.proofs.Stored.{stored-is}
+use Rattle.lookback.specs.InForce.{isNonLatched, timeAsked}
 use Rattle.lookback.specs.Sight.{Sight, point, pointsIn}
 use Rattle.lookback.specs.Watch.{goingBy, restarts}
 use Rattle.lookback.specs.Seen.{clockSince, marked}
@@ -56,7 +60,7 @@ not-both es = apart anyMotion (goingBy anyMotion es) isOver (pointsAsked es) (so
 
 pub lawful : Lawful anyMotion
 lawful = record {
-  one = λ es v. one-or-none (inForce es 0x16) (inForce es 0x28) v (samples es);
+  one = λ es v. one-or-none (byteBy es 0x16) (byteBy es 0x28) v (samples es);
   latches = refl;
   kept = λ es e r. rw (in-force-kept clearing es e r 0x27 refl);
   apart = not-both;
@@ -80,25 +84,36 @@ clocks : (us : ℕ) (s : Detectors) → asDetector (detectorsClocked us s .motio
 unfolding detectorsClocked
 clocks us s = clock-as us (s .motion)
 
+-- what it goes by, after a history
+abbrev settingsBy : List Event → Settings
+settingsBy es = record { axes = byteBy es 0x16; points = byteBy es 0x27; threshold = byteBy es 0x28; unlatched = isNonLatched es; hold = timeAsked es }
+
+settings-are : (es : List Event) → motionSettings (bank es) ≡ settingsBy es
+settings-are es =
+    rw (stored-is es 0x16 (omega arith), stored-is es 0x27 (omega arith), stored-is es 0x28 (omega arith), stored-is es 0x21 (omega arith), latch-is (byteBy es 0x21), hold-is (byteBy es 0x21))
+
 -- an accepted sample
-module _ (es : List Event) (v : Signed) where
+module _ (es : List Event) (v : Values) where
   abbrev now : Motion
   now = after es .detectors .motion
 
-  sampled : detectorsSampled (bank es) (v .x) (v .y) (v .z) (after es .detectors) .motion ≡ afterPoint (motionSettings (bank es)) (asPoints (pointBy 0x16 0x28 es v)) now
-  unfolding detectorsSampled afterSample
-  sampled = rw (point-is (inForce es 0x16) (inForce es 0x28) v (after es .detectors .previous) (samples es) (previous-is es))
+  abbrev sampled : Motion
+  sampled = detectorsSampled (bank es) (v .x) (v .y) (v .z) (after es .detectors) .motion
 
-  idle : pointBy 0x16 0x28 es v ≡ [] → asDetector (detectorsSampled (bank es) (v .x) (v .y) (v .z) (after es .detectors) .motion) ≡ asDetector now
-  idle n = ap asDetector sampled ∙ rw n
+  sampled-is : sampled ≡ afterPoint (settingsBy es) (asPoints (pointBy 0x16 0x28 es v)) now
+  unfolding detectorsSampled afterSample
+  sampled-is =
+      ap (λ (s : Settings). afterSample s (slopesTo (v .x) (v .y) (v .z) (after es .detectors .previous)) now) (settings-are es)
+      ∙ rw (point-is (byteBy es 0x16) (byteBy es 0x28) v (after es .detectors .previous) (samples es) (previous-is es))
+
+  idle : pointBy 0x16 0x28 es v ≡ [] → asDetector sampled ≡ asDetector now
+  idle n = ap asDetector sampled-is ∙ rw n
 
   judges : (p : OverAxes) → pointBy 0x16 0x28 es v ≡ p ∷ [] → (ss : List (Sight OverAxes)) → now .runs ≡ runsAfter (goingBy anyMotion es .own) (map isOver (pointsIn ss))
-      → asDetector (detectorsSampled (bank es) (v .x) (v .y) (v .z) (after es .detectors) .motion)
+      → asDetector sampled
       ≡ record { run = runsAfter (goingBy anyMotion es .own) (map isOver (p ∷ pointsIn ss)); alarm = judgedBy anyMotion (goingBy anyMotion es) p ss (now .alarm) }
   unfolding goingBy
-  judges p n ss h =
-      ap asDetector sampled
-      ∙ rw (n, ← latch-is (inForce es 0x21), ← hold-is (inForce es 0x21)) (point-next (motionSettings (bank es)) now (pointsIn ss) (pointsAsked es) refl (some-asked es) h p)
+  judges p n ss h = ap asDetector sampled-is ∙ rw n (point-next (settingsBy es) now (pointsIn ss) (pointsAsked es) refl (some-asked es) h p)
 
 part : Part anyMotion
 part = record {

@@ -10,7 +10,8 @@ use Rattle.laws.specs.Choice.{both, either}
 use Rattle.laws.specs.Bits.{bit}
 use Rattle.laws.specs.Lists.{isIn}
 use Rattle.events.specs.Event.{Event, powerUp, write, read, sample, cycle, clock}
-use Rattle.lookback.specs.InForce.{inForce, isAccepted, startsAnew, beginsAnew}
+use Rattle.paper.specs.Stored.{startsAnew, byteBy, isAccepted}
+use Rattle.lookback.specs.InForce.{beginsAnew}
 use Rattle.lookback.specs.Sight.{point}
 use Rattle.lookback.specs.Watch.{restarts, pointAt}
 use Rattle.lookback.specs.Seen.{seen, expires, setsAt}
@@ -76,4 +77,4 @@ module _ (es : List Event) (e : Event) where
 
     -- and calm points, also those that clear the status
     pub bit-3-over-calm : pointAt anyMotion es e ≡ [] ∷ [] → bit 3 (marksByte (e ∷ es)) ≡ bit 3 (marksByte es)
-    bit-3-over-calm h = of-sign (stays.sign-over-point anyMotion lawful es e old [] h (sets-is es (point [] ∷ seen anyMotion es) ∙ rw (add-one (inForce es 0x27 % 4))))
+    bit-3-over-calm h = of-sign (stays.sign-over-point anyMotion lawful es e old [] h (sets-is es (point [] ∷ seen anyMotion es) ∙ rw (add-one (byteBy es 0x27 % 4))))

@@ -3,7 +3,8 @@ use Prim.Native.Nat.{ℕ, _+_, _%_}
 use mathlib.Core.Bool.{Bool}
 use mathlib.Core.List.{List, [], _∷_}
 use Rattle.events.specs.Event.{Event}
-use Rattle.lookback.specs.InForce.{inForce, isNonLatched}
+use Rattle.paper.specs.Stored.{byteBy}
+use Rattle.lookback.specs.InForce.{isNonLatched}
 use Rattle.lookback.specs.Sight.{pointsIn}
 use Rattle.lookback.specs.Watch.{Watch}
 use Rattle.lookback.specs.Seen as lookback
@@ -12,7 +13,7 @@ use Rattle.points.specs.Points.{OverAxes, isOver, isCalm, firstMarked, pointBy}
 
 -- "N is 0x27 bits 1:0 plus 1"
 abbrev pub pointsAsked : List Event → ℕ
-pointsAsked es = inForce es 0x27 % 4 + 1
+pointsAsked es = byteBy es 0x27 % 4 + 1
 
 -- "An accepted write to 0x0F, 0x16, 0x21, 0x27 or 0x28 clears status, marks and runs"
 abbrev pub clearing : List ℕ

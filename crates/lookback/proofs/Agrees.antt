@@ -12,7 +12,8 @@ use Rattle.alarm.specs.Course.{Detector, clocked}
 use Rattle.alarm.specs.declared.Alarm.{Alarm}
 use Rattle.alarm.proofs.Course.{clocked-idle, clocked-stands, clocked-reached}
 use Rattle.events.specs.Event.{Event, clock}
-use Rattle.lookback.specs.InForce.{startsAnew, microsecondsAt}
+use Rattle.paper.specs.Stored.{startsAnew}
+use Rattle.paper.specs.Samples.{microsecondsAt}
 use Rattle.lookback.specs.Sight.{Sight, point, passed}
 use Rattle.lookback.specs.Watch.{Mark, Watch, Going, goingBy, restarts, pointAt}
 use Rattle.lookback.specs.Seen.{isSetBy, sinceBy, seen, isSet, clockSince, expires, setsAt, markOf, marked}

@@ -10,7 +10,9 @@ use lib.ListN.{length}
 use Rattle.laws.specs.Choice.{pick, both}
 use Rattle.laws.proofs.Finite.{right}
 use Rattle.events.specs.Event.{Event, clock}
-use Rattle.lookback.specs.InForce.{timeAsked, beginsAnew, Signed, brings, microsecondsAt}
+use Rattle.laws.specs.Bits.{worth}
+use Rattle.paper.specs.Samples.{isSample, valuesAt, microsecondsAt}
+use Rattle.lookback.specs.InForce.{timeAsked, beginsAnew}
 use Rattle.lookback.specs.Sight.{point, passed, pointsIn}
 use Rattle.lookback.specs.Watch.{Watch, Going, goingBy, restarts, pointAmong, pointAt}
 use Rattle.lookback.specs.Seen.{isSetBy, sinceBy, seen, isSet, clockSince, expires, setsAt}
@@ -128,13 +130,13 @@ module _ (w : Watch) (l : Lawful w) where
     points-since [] = rw none-left (omega arith)
     points-since (e ∷ later) = go (points-since later) (next w l (later ++ es) e)
       where
-        brought : (p : w .Point) (vs : List Signed) → pointAmong w (later ++ es) vs ≡ p ∷ [] → 1 ≤ length vs
-        brought p [] f = let z : _≡_ {A = ℕ} 0 1 = cc in absurd (omega arith)
-        brought p (v ∷ vs) f = omega arith
+        brought : (p : w .Point) (t : Bool) → pointAmong w (later ++ es) (pick t (valuesAt (later ++ es) e ∷ []) []) ≡ p ∷ [] → 1 ≤ worth 1 t
+        brought p true f = omega arith
+        brought p false f = let z : _≡_ {A = ℕ} 0 1 = cc in absurd (omega arith)
 
-        go : length (pointsIn (seen w (later ++ es))) ≤ samplesOver later → Next w (later ++ es) e → length (pointsIn (seen w (e ∷ (later ++ es)))) ≤ length (brings e) + samplesOver later
+        go : length (pointsIn (seen w (later ++ es))) ≤ samplesOver later → Next w (later ++ es) e → length (pointsIn (seen w (e ∷ (later ++ es)))) ≤ worth 1 (isSample e) + samplesOver later
         go few (anew r s) = rw s (omega arith)
         go few (rest us is r x s) = rw s (omega arith)
         go few (more us is r x s) = rw s (omega (arith, few))
-        go few (one p n r f s) = rw s (omega (arith, few, brought p (brings e) f))
+        go few (one p n r f s) = rw s (omega (arith, few, brought p (isSample e) f))
         go few (none c n r f s) = rw s (omega (arith, few))

@@ -1,33 +1,27 @@
--- What every detector of the device goes by is what 01 names: the codes of 0x21, the samples of -2048..2047, and the writes that begin
--- something anew. Assumes nothing.
+-- What every detector of the device goes by is what 01 names: the codes of 0x21, and the writes that begin something anew. Assumes nothing.
 use Prim.Native.Nat.{ℕ, _%_, _≤_}
 use mathlib.Core.Bool.{Bool, true, false, not}
 use mathlib.Core.List.{List, [], _∷_}
 use mathlib.Core.Path.{_≡_, refl, sym, ap, _∙_}
 use native.Mathlib.Omega.{arith}
-use borrow.Author.Tests.{eqb-true, le-leb, leb-true, leb-false, le-ltb, lt-ltb}
-use lib.Dec.{eqb, leb, ltb, leb·suc-suc}
-use lib.IntN.{ℤ, pos, negsuc}
-use lib.ListN.{getD}
+use borrow.Author.Tests.{eqb-true, le-leb}
+use lib.Dec.{eqb, leb}
 use Rattle.laws.specs.Choice.{pick, both, either}
 use Rattle.laws.specs.Lists.{isIn}
 use Rattle.laws.specs.Table.{upFrom}
-use Rattle.laws.proofs.Finite.{of-pick, alike, left, right}
+use Rattle.laws.proofs.Finite.{of-pick, alike}
 use Rattle.codes.specs.Latch.{latchOf, isUnlatched, holdOf}
-use Rattle.channels.specs.Codes.{inRange}
-use Rattle.table.specs.Rows.{rowAt, merged}
+use Rattle.table.specs.Rows.{rowAt}
 use Rattle.table.specs.declared.Row.{Row}
 use Rattle.registers.specs.Answers.{accepted}
-use Rattle.registers.specs.Deeds.{isReset, deedsOf, noDeeds, judgement}
-use Rattle.registers.specs.declared.Answer.the-variants.{Done, OutOfRange}
+use Rattle.registers.specs.Refused.{writeAnswer}
+use Rattle.registers.specs.Deeds.{deedsOf, noDeeds, judgement}
 use Rattle.registers.specs.declared.Deeds.{Deeds}
-use Rattle.device.specs.Device.{firstBytes}
-use Rattle.device.specs.Sample.{sampleAnswer}
 use Rattle.events.specs.Event.{Event, powerUp, write, read, sample, cycle, clock}
 use Rattle.events.specs.Bank.{bank}
-use Rattle.events.proofs.Runs.{bank-length}
-use Rattle.paper.proofs.Writes.{isStored, spared, byte-written}
-use Rattle.lookback.specs.InForce.{inForce, isAccepted, meansNonLatched, meansLatched, timeOfCode, meansTime, isNonLatched, isLatched, timeAsked, startsAnew, beginsAnew, fits}
+use Rattle.paper.specs.Stored.{isSoftReset, startsAnew, isSpared, none, last, byteLeft, lastWrite, byteBy, isAccepted}
+use Rattle.paper.proofs.Stored.{accepted-is}
+use Rattle.lookback.specs.InForce.{meansNonLatched, meansLatched, timeOfCode, meansTime, isNonLatched, isLatched, timeAsked, beginsAnew}
 
 -- ---- 0x21
 module _ (byte : ℕ) where
@@ -57,70 +51,40 @@ module _ (byte : ℕ) where
 module _ (es : List Event) where
   -- "low nibble 0000 and 1000 non-latched, 0111 and 1111 latched", and Q-4's codes for a time: at any time it is one of the three
   pub latched-or-not : isLatched es ≡ not (either (isNonLatched es) (leb 1 (timeAsked es)))
-  latched-or-not = one-latch (inForce es 0x21)
+  latched-or-not = one-latch (byteBy es 0x21)
 
   -- and what is held for a time is not non-latched
   pub timed-holds : 1 ≤ timeAsked es → isNonLatched es ≡ false
-  timed-holds h = go (isNonLatched es) (leb 1 (timeAsked es)) (le-leb 1 (timeAsked es) h) (not-both (inForce es 0x21))
+  timed-holds h = go (isNonLatched es) (leb 1 (timeAsked es)) (le-leb 1 (timeAsked es) h) (not-both (byteBy es 0x21))
     where
       go : (u t : Bool) → t ≡ true → both u t ≡ false → u ≡ false
       go true t e f = sym e ∙ f
       go false t e f = refl
-
--- ---- -2048..2047
-above-is : (n : ℕ) → ltb 2047 n ≡ not (leb n 2047)
-above-is n = go (leb n 2047) refl
-  where
-    go : (t : Bool) → leb n 2047 ≡ t → ltb 2047 n ≡ not t
-    go true e = let h = leb-true n 2047 e in le-ltb 2047 n h
-    go false e = let h = leb-false n 2047 e in lt-ltb 2047 n h
-
-in-range : (v : ℤ) → inRange v ≡ fits v
-in-range (pos n) = leb·suc-suc n 2047
-in-range (negsuc n) = rw (above-is n) (go (leb n 2047))
-  where
-    go : (t : Bool) → pick (not t) false true ≡ both t true
-    go true = refl
-    go false = refl
-
-pub sample-taken : (x y z : ℤ) → accepted (sampleAnswer x y z) ≡ both (fits x) (both (fits y) (fits z))
-unfolding sampleAnswer
-sample-taken x y z = rw (in-range x, in-range y, in-range z) (go (fits x) (fits y) (fits z))
-  where
-    go : (a b c : Bool) → accepted (pick (either (not a) (either (not b) (not c))) OutOfRange Done) ≡ both a (both b c)
-    go true true true = refl
-    go true true false = refl
-    go true false c = refl
-    go false b c = refl
 
 -- ---- writes
 -- a deed that is done at these addresses is done where a write to one of them is accepted
 pub deed-is : (deed : Deeds → Bool) (addresses : List ℕ) → ((regs : List ℕ) (r : Row) (a byte : ℕ) → deed (deedsOf regs r a byte) ≡ isIn addresses a) → deed noDeeds ≡ false
     → (es : List Event) (a byte : ℕ) → deed (judgement (bank es) a byte .deeds) ≡ both (isAccepted es a byte) (isIn addresses a)
 unfolding judgement
-deed-is deed addresses done none es a byte =
-    of-pick deed (isAccepted es a byte) (deedsOf (bank es) (rowAt a) a byte) noDeeds ∙ rw (done (bank es) (rowAt a) a byte, none) (go (isAccepted es a byte))
+deed-is deed addresses done undone es a byte =
+    of-pick deed (accepted (writeAnswer (bank es) a byte)) (deedsOf (bank es) (rowAt a) a byte) noDeeds ∙ rw (accepted-is es a byte, done (bank es) (rowAt a) a byte, undone) (go (isAccepted es a byte))
   where
     go : (t : Bool) → pick t (isIn addresses a) false ≡ both t (isIn addresses a)
     go true = refl
     go false = refl
 
 -- what is in force at these addresses changes where it begins anew only
-pub in-force-kept : (addresses : List ℕ) (es : List Event) (e : Event) → beginsAnew addresses es e ≡ false → (c : ℕ) → isIn addresses c ≡ true → inForce (e ∷ es) c ≡ inForce es c
-unfolding bank beginsAnew
+pub in-force-kept : (addresses : List ℕ) (es : List Event) (e : Event) → beginsAnew addresses es e ≡ false → (c : ℕ) → isIn addresses c ≡ true → byteBy (e ∷ es) c ≡ byteBy es c
+unfolding byteBy beginsAnew
 in-force-kept addresses es powerUp h c m = let z : _≡_ {A = ℕ} 0 1 = cc in absurd (omega arith)
-in-force-kept addresses es (write a byte) h c m =
-    byte-written (bank es) (bank-length es) c a byte ∙ go (isReset a byte) refl (both (isStored (bank es) a byte) (eqb c a)) refl h
+in-force-kept addresses es (write a byte) h c m = go (isSoftReset a byte) (eqb a c) refl (isAccepted es a byte) (isSpared c) h
   where
-    go : (r : Bool) → isReset a byte ≡ r → (s : Bool) → both (isStored (bank es) a byte) (eqb c a) ≡ s → either r (both (isAccepted es a byte) (isIn addresses a)) ≡ false
-        → pick r (pick (isIn spared c) (inForce es c) (getD firstBytes c 0)) (pick s (merged (rowAt a) byte) (inForce es c)) ≡ inForce es c
-    go true f s g h = cc
-    go false f true g h =
-        let own : c ≡ a = eqb-true c a (right (isStored (bank es) a byte) (eqb c a) g) in
-        let ok : isAccepted es a byte ≡ true = left (isAccepted es a byte) _ (left (isStored (bank es) a byte) (eqb c a) g) in
-        let n : isIn addresses c ≡ false = rw own (rw ok at h) in
-        cc
-    go false f false g h = refl
+    go : (r t : Bool) → eqb a c ≡ t → (s u : Bool) → either r (both s (isIn addresses a)) ≡ false
+        → byteLeft c (pick (both t s) (last byte) (pick (both r (not u)) none (lastWrite es c))) ≡ byteLeft c (lastWrite es c)
+    go true t e s u f = cc
+    go false true e true u f = let n : isIn addresses c ≡ false = rw (← eqb-true a c e) f in cc
+    go false true e false u f = refl
+    go false false e s u f = refl
 in-force-kept addresses es (read a n) h c m = refl
 in-force-kept addresses es (sample x y z t) h c m = refl
 in-force-kept addresses es cycle h c m = refl

@@ -23,10 +23,13 @@ use Rattle.events.specs.Bank.{bank}
 use Rattle.events.specs.Parts.{detectorsNext}
 use Rattle.events.proofs.Parts.{detectors-next}
 use Rattle.events.proofs.Runs.{bank-is}
-use Rattle.lookback.specs.InForce.{isAccepted, startsAnew, beginsAnew, Signed, fits}
+use Rattle.paper.specs.Stored.{startsAnew, isAccepted}
+use Rattle.paper.specs.Samples.{Values, allInside}
+use Rattle.paper.proofs.Samples.{sample-is}
+use Rattle.lookback.specs.InForce.{beginsAnew}
 use Rattle.lookback.specs.Sight.{Sight, point, passed}
 use Rattle.lookback.specs.Watch.{Watch, Going, goingBy, restarts, pointAt}
-use Rattle.lookback.proofs.InForce.{sample-taken, not-anew}
+use Rattle.lookback.proofs.InForce.{not-anew}
 use Rattle.lookback.proofs.Seen.{isClock}
 
 -- the alarm after a point p, behind the sights ss
@@ -51,8 +54,8 @@ pub record Part (w : Watch) : Type 1 where
   -- a clock
   pub clocks : (us : ℕ) (s : Detectors) → get (detectorsClocked us s) ≡ clocked course us (get s)
   -- an accepted sample that gives no point, and one that gives a point
-  pub idle : (es : List Event) (v : Signed) → w .pointOf es v ≡ [] → get (detectorsSampled (bank es) (v .x) (v .y) (v .z) (after es .detectors)) ≡ get (after es .detectors)
-  pub judges : (es : List Event) (v : Signed) (p : w .Point) → w .pointOf es v ≡ p ∷ [] → (ss : List (Sight (w .Point))) → get (after es .detectors) .run ≡ runOf (goingBy w es) ss
+  pub idle : (es : List Event) (v : Values) → w .pointOf es v ≡ [] → get (detectorsSampled (bank es) (v .x) (v .y) (v .z) (after es .detectors)) ≡ get (after es .detectors)
+  pub judges : (es : List Event) (v : Values) (p : w .Point) → w .pointOf es v ≡ p ∷ [] → (ss : List (Sight (w .Point))) → get (after es .detectors) .run ≡ runOf (goingBy w es) ss
       → get (detectorsSampled (bank es) (v .x) (v .y) (v .z) (after es .detectors))
       ≡ record { run = runOf (goingBy w es) (point p ∷ ss); alarm = judgedBy w (goingBy w es) p ss (get (after es .detectors) .alarm) }
 
@@ -100,20 +103,20 @@ module _ (w : Watch) (part : Part w) where
   held-restarted es cycle old r = cc
   held-restarted es (clock us) old r = cc
 
-  sampled : (es : List Event) (x y z : ℤ) (t : ℕ) → both (fits x) (both (fits y) (fits z)) ≡ true
+  sampled : (es : List Event) (x y z : ℤ) (t : ℕ) → allInside x y z ≡ true
       → held (sample x y z t ∷ es) ≡ part .get (detectorsSampled (bank es) x y z (after es .detectors))
-  sampled es x y z t f = steps es (sample x y z t) ∙ rw (sample-taken x y z, f)
+  sampled es x y z t f = steps es (sample x y z t) ∙ rw (sample-is x y z, f)
 
   pub held-idle : (es : List Event) (e : Event) → isClock e ≡ false → restarts w es e ≡ false → pointAt w es e ≡ [] → held (e ∷ es) ≡ held es
   unfolding pointAt beginsAnew
   held-idle es powerUp c r q = cc
   held-idle es (write a byte) c r q = held-written es a byte (not-anew (w .clearing) es (write a byte) r) ∙ rw r
   held-idle es (read a m) c r q = steps es (read a m)
-  held-idle es (sample x y z t) c r q = go (both (fits x) (both (fits y) (fits z))) refl
+  held-idle es (sample x y z t) c r q = go (allInside x y z) refl
     where
-      go : (b : Bool) → both (fits x) (both (fits y) (fits z)) ≡ b → held (sample x y z t ∷ es) ≡ held es
-      go true f = sampled es x y z t f ∙ part .idle es (record { x = x; y = y; z = z }) (rw f at q)
-      go false f = steps es (sample x y z t) ∙ rw (sample-taken x y z, f)
+      go : (b : Bool) → allInside x y z ≡ b → held (sample x y z t ∷ es) ≡ held es
+      go true f = sampled es x y z t f ∙ part .idle es (record { x = x; y = y; z = z; temperature = t }) (rw f at q)
+      go false f = steps es (sample x y z t) ∙ rw (sample-is x y z, f)
   held-idle es cycle c r q = steps es cycle
   held-idle es (clock us) c r q = cc
 
@@ -123,11 +126,11 @@ module _ (w : Watch) (part : Part w) where
   held-judged es powerUp p q ss h = cc
   held-judged es (write a byte) p q ss h = cc
   held-judged es (read a n) p q ss h = cc
-  held-judged es (sample x y z t) p q ss h = go (both (fits x) (both (fits y) (fits z))) refl
+  held-judged es (sample x y z t) p q ss h = go (allInside x y z) refl
     where
-      go : (b : Bool) → both (fits x) (both (fits y) (fits z)) ≡ b
+      go : (b : Bool) → allInside x y z ≡ b
           → held (sample x y z t ∷ es) ≡ record { run = part .runOf (goingBy w es) (point p ∷ ss); alarm = judgedBy w (goingBy w es) p ss (held es .alarm) }
-      go true f = sampled es x y z t f ∙ part .judges es (record { x = x; y = y; z = z }) p (rw f at q) ss h
+      go true f = sampled es x y z t f ∙ part .judges es (record { x = x; y = y; z = z; temperature = t }) p (rw f at q) ss h
       go false f = let k : [] ≡ p ∷ [] = rw f at q in cc
   held-judged es cycle p q ss h = cc
   held-judged es (clock us) p q ss h = cc

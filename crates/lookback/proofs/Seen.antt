@@ -12,7 +12,7 @@ use Rattle.laws.specs.Lists.{isIn}
 use Rattle.laws.proofs.Finite.{left, right}
 use Rattle.events.specs.Event.{Event, powerUp, write, read, sample, cycle, clock}
 use Rattle.events.specs.Views.{atClock}
-use Rattle.lookback.specs.InForce.{startsAnew, beginsAnew, Signed, brings, microsecondsAt}
+use Rattle.paper.specs.Samples.{Values, brings, microsecondsAt}
 use Rattle.lookback.specs.Sight.{Sight, point, passed}
 use Rattle.lookback.specs.Watch.{Mark, Watch, Going, goingBy, restarts, pointAmong, pointAt}
 use Rattle.lookback.specs.Seen.{isSetBy, sinceBy, sightsAt, seen, isSet, clockSince, expires, setsAt, markOf, marked}
@@ -27,7 +27,7 @@ OneOrNone (p ∷ (q ∷ ps)) = ⊥
 -- what has to hold of a watch
 pub record Lawful (w : Watch) : Type 0 where
   -- a sample gives one point at the most
-  pub one : (es : List Event) (v : Signed) → OneOrNone (w .pointOf es v)
+  pub one : (es : List Event) (v : Values) → OneOrNone (w .pointOf es v)
   -- the settings change at restarts only
   pub latches : isIn (w .clearing) 0x21 ≡ true
   pub kept : (es : List Event) (e : Event) → restarts w es e ≡ false → w .setting (e ∷ es) ≡ w .setting es
@@ -66,9 +66,9 @@ module _ (w : Watch) (l : Lawful w) (es : List Event) (e : Event) where
 
   pub one-at : OneOrNone (pointAt w es e)
   unfolding pointAt
-  one-at = go (brings e)
+  one-at = go (brings es e)
     where
-      go : (vs : List Signed) → OneOrNone (pointAmong w es vs)
+      go : (vs : List Values) → OneOrNone (pointAmong w es vs)
       go [] = tt
       go (v ∷ vs) = l .one es v
 
@@ -94,7 +94,7 @@ module _ (w : Watch) (l : Lawful w) (es : List Event) (e : Event) where
 
   pub seen-expired : (us : ℕ) → e ≡ clock us → restarts w es e ≡ false → expires w es e ≡ true → seen w (e ∷ es) ≡ passed (clockSince w es + us - goingBy w es .time) ∷ []
   unfolding seen expires
-  seen-expired us is r x = rw (r, x, ap microsecondsAt is)
+  seen-expired us is r x = rw (r, x) (ap (λ (n : ℕ). passed (clockSince w es + n - goingBy w es .time) ∷ []) (ap microsecondsAt is))
 
   seen-kept : restarts w es e ≡ false → expires w es e ≡ false → seen w (e ∷ es) ≡ sightsAt w es e ++ seen w es
   unfolding seen expires

@@ -5,7 +5,7 @@ use mathlib.Core.List.{List, [], _∷_}
 use mathlib.Core.Path.{_≡_, refl, sym, ap, _∙_}
 use Rattle.laws.specs.Choice.{pick, both}
 use Rattle.events.specs.Event.{Event}
-use Rattle.lookback.specs.InForce.{startsAnew}
+use Rattle.paper.specs.Stored.{startsAnew}
 use Rattle.lookback.specs.Sight.{Sight, point}
 use Rattle.lookback.specs.Watch.{Mark, Watch, Going, goingBy, restarts, pointAt}
 use Rattle.lookback.specs.Seen.{isSetBy, seen, isSet, expires, setsAt, marked}

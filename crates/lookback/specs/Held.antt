@@ -4,9 +4,10 @@ use Prim.Native.Nat.{ℕ, _+_, _-_, _<_, _≤_}
 use mathlib.Core.Bool.{true, false}
 use mathlib.Core.List.{List, [], _∷_, _++_}
 use mathlib.Core.Path.{_≡_}
-use lib.ListN.{length}
+use Rattle.laws.specs.Bits.{worth}
 use Rattle.events.specs.Event.{Event, clock}
-use Rattle.lookback.specs.InForce.{timeAsked, brings, microsecondsAt}
+use Rattle.paper.specs.Samples.{isSample, microsecondsAt}
+use Rattle.lookback.specs.InForce.{timeAsked}
 use Rattle.lookback.specs.Sight.{passed}
 use Rattle.lookback.specs.Watch.{Watch, restarts}
 use Rattle.lookback.specs.Seen.{seen, isSet, expires, setsAt}
@@ -17,10 +18,10 @@ abbrev pub clockOver : List Event → ℕ
 clockOver [] = 0
 clockOver (e ∷ later) = microsecondsAt e + clockOver later
 
--- how many samples these events bring: accepted ones, each of which can give one point at the most
+-- how many of these events are accepted samples, each of which can give one point at the most
 abbrev pub samplesOver : List Event → ℕ
 samplesOver [] = 0
-samplesOver (e ∷ later) = length (brings e) + samplesOver later
+samplesOver (e ∷ later) = worth 1 (isSample e) + samplesOver later
 
 module _ (w : Watch) where
   -- none of the later events, which come behind es, is power-up, a soft reset or a write that clears status, marks and runs

@@ -6,7 +6,8 @@ use lib.Dec.{leb}
 use Rattle.laws.specs.Choice.{pick, both}
 use Rattle.events.specs.Event.{Event}
 use Rattle.events.specs.Views.{atClock}
-use Rattle.lookback.specs.InForce.{startsAnew, microsecondsAt}
+use Rattle.paper.specs.Stored.{startsAnew}
+use Rattle.paper.specs.Samples.{microsecondsAt}
 use Rattle.lookback.specs.Sight.{Sight, point, passed}
 use Rattle.lookback.specs.Watch.{Mark, noMark, Watch, Going, goingBy, restarts, pointAt}
 

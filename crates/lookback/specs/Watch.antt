@@ -3,7 +3,8 @@ use Prim.Native.Nat.{ℕ}
 use mathlib.Core.Bool.{Bool, false}
 use mathlib.Core.List.{List, [], _∷_}
 use Rattle.events.specs.Event.{Event}
-use Rattle.lookback.specs.InForce.{isNonLatched, timeAsked, beginsAnew, Signed, brings}
+use Rattle.paper.specs.Samples.{Values, brings}
+use Rattle.lookback.specs.InForce.{isNonLatched, timeAsked, beginsAnew}
 use Rattle.lookback.specs.Sight.{Sight}
 
 -- what is marked when the status is set: an axis, as the byte of marks shows it, and whether the value is negative there
@@ -17,7 +18,7 @@ noMark = record { axis = 0; negative = false }
 pub record Watch : Type 1 where
   -- what an accepted sample may give it: the point, if any, of a sample after a history
   pub Point : Type 0
-  pub pointOf : List Event → Signed → List Point
+  pub pointOf : List Event → Values → List Point
   -- what it goes by from one restart to the next, beside 0x21, and what that is after a history
   pub Setting : Type 0
   pub setting : List Event → Setting
@@ -45,10 +46,10 @@ module _ (w : Watch) where
   restarts es e = beginsAnew (w .clearing) es e
 
   -- the point, if any, of an accepted sample, where one came
-  abbrev pub pointAmong : List Event → List Signed → List (w .Point)
+  abbrev pub pointAmong : List Event → List Values → List (w .Point)
   pointAmong es [] = []
-  pointAmong es (s ∷ ss) = w .pointOf es s
+  pointAmong es (v ∷ vs) = w .pointOf es v
 
   -- the point, if any, that an event gives
   unfoldable pub pointAt : List Event → Event → List (w .Point)
-  pointAt es e = pointAmong es (brings e)
+  pointAt es e = pointAmong es (brings es e)

@@ -18,16 +18,16 @@ use Rattle.slopes.specs.Point.{overOn, noAxis, firstOver, pointOf}
 use Rattle.slopes.specs.declared.Previous.{Previous}
 use Rattle.slopes.specs.declared.Point.{Point}
 use Rattle.slopes.specs.declared.Point.the-variants.{None, Calm, Over}
-use Rattle.lookback.specs.InForce.{Signed, fits}
+use Rattle.paper.specs.Samples.{Values, isInside}
 use Rattle.lookback.proofs.Seen.{OneOrNone}
 use Rattle.points.specs.Points.{AxisDifference, OverAxes, axesBetween, isAbove, aboveAmong, firstMarked, anyEnabled, pointOfTwo}
 
 -- "the difference of two signed samples in a row lies between -4095 and 4095"
-small : (v : ℤ) → fits v ≡ true → mag v ≤ 2047
+small : (v : ℤ) → isInside v ≡ true → mag v ≤ 2047
 small (pos n) h = leb-true n 2047 h
 small (negsuc n) h = leb-true n 2047 (left (leb n 2047) true h)
 
-pub difference-bounds : (old new : ℤ) → fits old ≡ true → fits new ≡ true → natAbs (new -ℤ old) ≤ 4095
+pub difference-bounds : (old new : ℤ) → isInside old ≡ true → isInside new ≡ true → natAbs (new -ℤ old) ≤ 4095
 difference-bounds old new p q = let a = small old p in let b = small new q in omega (arith, sub-size 2048 new old (omega arith) (omega arith))
 
 -- ---- the axes
@@ -46,7 +46,7 @@ none-enabled byte = rw (low-0 byte, low-1 byte, low-2 byte) (alike (λ m. eqb m 
 
 -- ---- the point
 -- the detectors' previous sample is the latest of these
-abbrev pub Follows : Previous → List Signed → Type 0
+abbrev pub Follows : Previous → List Values → Type 0
 Follows p [] = p .known ≡ false
 Follows p (s ∷ ss) = p ≡ remembered (s .x) (s .y) (s .z)
 
@@ -67,7 +67,7 @@ module _ (enabled threshold : ℕ) where
       go true t = refl
       go false t = refl
 
-  over-is : (old new : Signed)
+  over-is : (old new : Values)
       → firstOver enabled threshold (slopeOf (old .x) (new .x)) (slopeOf (old .y) (new .y)) (slopeOf (old .z) (new .z)) ≡ asPoint (aboveAmong enabled threshold (axesBetween old new))
   unfolding firstOver
   over-is old new = rw (above-is 0 (old .x) (new .x), above-is 1 (old .y) (new .y), above-is 2 (old .z) (new .z))
@@ -92,7 +92,7 @@ module _ (enabled threshold : ℕ) where
       go false false true = refl
       go false false false = refl
 
-  pub point-is : (new : Signed) (p : Previous) (olds : List Signed) → Follows p olds
+  pub point-is : (new : Values) (p : Previous) (olds : List Values) → Follows p olds
       → pointOf enabled threshold (slopesTo (new .x) (new .y) (new .z) p) ≡ asPoints (pointOfTwo enabled threshold new olds)
   unfolding pointOf slopesTo
   point-is new p [] h = rw h
@@ -102,7 +102,7 @@ module _ (enabled threshold : ℕ) where
       go true = refl
       go false = refl
 
-  pub one-or-none : (new : Signed) (olds : List Signed) → OneOrNone (pointOfTwo enabled threshold new olds)
+  pub one-or-none : (new : Values) (olds : List Values) → OneOrNone (pointOfTwo enabled threshold new olds)
   one-or-none new [] = tt
   one-or-none new (old ∷ olds) = picked OneOrNone (anyEnabled enabled) tt tt
 

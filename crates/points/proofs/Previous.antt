@@ -22,8 +22,11 @@ use Rattle.events.specs.Bank.{bank}
 use Rattle.events.specs.Parts.{detectorsNext}
 use Rattle.events.proofs.Parts.{detectors-next}
 use Rattle.events.proofs.Runs.{bank-is}
-use Rattle.lookback.specs.InForce.{isAccepted, beginsAnew, fits}
-use Rattle.lookback.proofs.InForce.{sample-taken, deed-is}
+use Rattle.paper.specs.Stored.{isAccepted}
+use Rattle.paper.specs.Samples.{allInside}
+use Rattle.paper.proofs.Samples.{sample-is}
+use Rattle.lookback.specs.InForce.{beginsAnew}
+use Rattle.lookback.proofs.InForce.{deed-is}
 use Rattle.points.specs.Points.{forgetting, samples}
 use Rattle.points.proofs.Points.{Follows}
 
@@ -45,9 +48,9 @@ previous-next es d h (write a byte) = rw (written (judgement (bank es) a byte .d
     go false true = refl
     go false false = h
 previous-next es d h (read a n) = h
-previous-next es d h (sample x y z t) = rw (sample-taken x y z) (go (both (fits x) (both (fits y) (fits z))))
+previous-next es d h (sample x y z t) = rw (sample-is x y z) (go (allInside x y z))
   where
-    go : (t : Bool) → Follows (pick t (detectorsSampled (bank es) x y z d) d .previous) (pick t (record { x = x; y = y; z = z } ∷ []) [] ++ samples es)
+    go : (b : Bool) → Follows (pick b (detectorsSampled (bank es) x y z d) d .previous) (pick b (record { x = x; y = y; z = z; temperature = t } ∷ []) [] ++ samples es)
     go true = refl
     go false = h
 previous-next es d h cycle = h

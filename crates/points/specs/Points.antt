@@ -8,7 +8,9 @@ use lib.Signed.{ltZ}
 use Rattle.laws.specs.Choice.{pick, both, either}
 use Rattle.laws.specs.Bits.{bit}
 use Rattle.events.specs.Event.{Event}
-use Rattle.lookback.specs.InForce.{inForce, beginsAnew, Signed, brings}
+use Rattle.paper.specs.Stored.{byteBy}
+use Rattle.paper.specs.Samples.{Values, brings}
+use Rattle.lookback.specs.InForce.{beginsAnew}
 use Rattle.lookback.specs.Watch.{Mark, noMark}
 
 -- "0x0F also forgets the previous sample"
@@ -20,9 +22,9 @@ forgets es e = beginsAnew forgetting es e
 
 -- the accepted samples since power-up, soft reset or an accepted write to 0x0F, the latest first: of a next
 -- sample the first of them is the previous one
-unfoldable pub samples : List Event → List Signed
+unfoldable pub samples : List Event → List Values
 samples [] = []
-samples (e ∷ es) = pick (forgets es e) [] (brings e ++ samples es)
+samples (e ∷ es) = pick (forgets es e) [] (brings es e ++ samples es)
 
 -- an axis between two samples in a row: its bit among the axes and the marks, "bits 2:0 (z, y, x)", and the difference
 pub record AxisDifference : Type 0 where
@@ -33,7 +35,7 @@ abbrev axis : ℕ → ℤ → AxisDifference
 axis place difference = record { place = place; difference = difference }
 
 -- "the difference of two signed samples in a row", of the earlier and the later; "x before y before z"
-abbrev pub axesBetween : Signed → Signed → List AxisDifference
+abbrev pub axesBetween : Values → Values → List AxisDifference
 axesBetween old new = axis 0 (new .x -ℤ old .x) ∷ axis 1 (new .y -ℤ old .y) ∷ axis 2 (new .z -ℤ old .z) ∷ []
 
 -- by the byte of the axes and that of the threshold, any-motion's 0x16 and 0x28: "some axis enabled in 0x16 bits 2:0 (z, y, x) has slope above
@@ -68,10 +70,10 @@ abbrev pub anyEnabled : ℕ → Bool
 anyEnabled enabled = either (bit 0 enabled) (either (bit 1 enabled) (bit 2 enabled))
 
 -- the point, if any, of a later sample and the earlier ones: "The first sample gives no point, nor does any sample while no axis is enabled"
-abbrev pub pointOfTwo : ℕ → ℕ → Signed → List Signed → List OverAxes
+abbrev pub pointOfTwo : ℕ → ℕ → Values → List Values → List OverAxes
 pointOfTwo enabled threshold new [] = []
 pointOfTwo enabled threshold new (old ∷ olds) = pick (anyEnabled enabled) (aboveAmong enabled threshold (axesBetween old new) ∷ []) []
 
 -- the point, if any, of an accepted sample after a history, by what is in force then at the addresses of the axes and of the threshold
-abbrev pub pointBy : ℕ → ℕ → List Event → Signed → List OverAxes
-pointBy axesAt thresholdAt es new = pointOfTwo (inForce es axesAt) (inForce es thresholdAt) new (samples es)
+abbrev pub pointBy : ℕ → ℕ → List Event → Values → List OverAxes
+pointBy axesAt thresholdAt es new = pointOfTwo (byteBy es axesAt) (byteBy es thresholdAt) new (samples es)
