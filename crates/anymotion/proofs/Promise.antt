@@ -19,7 +19,9 @@ use Rattle.events.specs.Event.{Event, bytes}
 use Rattle.events.specs.Run.{after}
 use Rattle.rules.specs.Shown.{bitSeen}
 use Rattle.rules.proofs.Reading as rules
-use Rattle.lookback.specs.InForce.{inForce, Signed, isNonLatched, isLatched, timeAsked}
+use Rattle.paper.specs.Stored.{byteBy}
+use Rattle.paper.specs.Samples.{Values}
+use Rattle.lookback.specs.InForce.{isNonLatched, isLatched, timeAsked}
 use Rattle.lookback.specs.Watch.{goingBy}
 use Rattle.lookback.specs.Seen.{seen, markOf}
 use Rattle.lookback.specs.Marks.{markShown, signShown}
@@ -35,12 +37,12 @@ use Rattle.anymotion.specs.Held.{reads}
 use Rattle.anymotion.proofs.Detector.{some-asked, sets-is, clears-is, motionAfter, detector-is}
 
 -- what a point marks is below 8
-small : (es : List Event) (s : Signed) → markOf anyMotion (pointBy 0x16 0x28 es s) .axis < 8
+small : (es : List Event) (s : Values) → markOf anyMotion (pointBy 0x16 0x28 es s) .axis < 8
 small es s = go (samples es)
   where
-    go : (olds : List Signed) → markOf anyMotion (pointOfTwo (inForce es 0x16) (inForce es 0x28) s olds) .axis < 8
+    go : (olds : List Values) → markOf anyMotion (pointOfTwo (byteBy es 0x16) (byteBy es 0x28) s olds) .axis < 8
     go [] = omega arith
-    go (old ∷ olds) = picked (λ (ps : List OverAxes). markOf anyMotion ps .axis < 8) (anyEnabled (inForce es 0x16)) (above-small (inForce es 0x16) (inForce es 0x28) old s) (omega arith)
+    go (old ∷ olds) = picked (λ (ps : List OverAxes). markOf anyMotion ps .axis < 8) (anyEnabled (byteBy es 0x16)) (above-small (byteBy es 0x16) (byteBy es 0x28) old s) (omega arith)
 
 module _ (es : List Event) where
   -- ---- looking back

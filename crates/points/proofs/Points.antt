@@ -107,7 +107,7 @@ module _ (enabled threshold : ℕ) where
   one-or-none new (old ∷ olds) = picked OneOrNone (anyEnabled enabled) tt tt
 
   -- "bits 2:0 (z, y, x)": a point marks one of three bits, or none
-  pub above-small : (old new : Signed) → firstMarked (aboveAmong enabled threshold (axesBetween old new)) .axis < 8
+  pub above-small : (old new : Values) → firstMarked (aboveAmong enabled threshold (axesBetween old new)) .axis < 8
   above-small old new = go (isAbove enabled threshold x) (isAbove enabled threshold y) (isAbove enabled threshold z)
     where
       x : AxisDifference
