@@ -3,10 +3,11 @@
 use Prim.Native.Nat.{ℕ, _≤_}
 use mathlib.Core.Bool.{true, false}
 use mathlib.Core.List.{List, [], _∷_}
-use mathlib.Core.Path.{_≡_, subst, _∙_}
+use mathlib.Core.Path.{_≡_, ap, subst, _∙_}
 use native.Mathlib.Omega.{arith}
 use lib.Dec.{eqb, ltb}
 use borrow.Author.Tests.{le-ltb, le-leb, ne-eqb}
+use Rattle.laws.specs.Lists.{isIn}
 use Rattle.laws.specs.Bits.{bit}
 use Rattle.laws.specs.Keys.{_means_}
 use Rattle.laws.specs.Bytes.{firstOrZeros}
@@ -27,9 +28,11 @@ use Rattle.history.specs.History.{accelerometer, saysHere, twin}
 use Rattle.history.proofs.Conserve.{demand3, device-holds}
 use Rattle.anymotion.proofs.Detector.{detector-is}
 use Rattle.anymotion.proofs.Promise.{marks-are}
-use Rattle.rules.specs.Rules.{status, Elsewhere, ruled, maps, isOne, someMapped, Leveled}
+use Rattle.rules.specs.Shown.{bitSeen}
+use Rattle.rules.specs.Rules.{status, Elsewhere, statusAddresses, statusesBy, ruled, maps, isOne, someMapped, Leveled}
 use Rattle.rules.proofs.Shown.{elsewhereIn}
-use Rattle.rules.proofs.Reading.{reads}
+use Rattle.rules.proofs.Worths.{holdsAt}
+use Rattle.rules.proofs.Reading.{reads, rule-seen}
 use Rattle.rules.proofs.Pins.{pins}
 use Rattle.demand2.specs.Demand2.{elsewhere, Demand2}
 
@@ -42,6 +45,10 @@ elsewhere-is es = λ i. record {
   statuses = status 0x09 2 (detector-is es i .alarm .status) ∷ [];
   marks = 0x0B means marks-are es i ∷ [];
 }
+
+-- 0x09 and 0x0A bit by bit: the status that shows there, and 0 where none does
+pub status-seen : (es : List Event) (a : ℕ) → isIn statusAddresses a ≡ true → (k : ℕ) → bitSeen es a k ≡ holdsAt a k (statusesBy (elsewhere es) es)
+status-seen es a m k = rule-seen es a m k ∙ ap (λ (w : Elsewhere). holdsAt a k (statusesBy w es)) (elsewhere-is es)
 
 -- ---- a readout
 module _ (es : List Event) (n : ℕ) (some : 1 ≤ n) (few : n ≤ 192) where

@@ -27,10 +27,10 @@ use Rattle.rules.specs.Rules.{depthBy, watermarkStatus}
 use Rattle.paper.specs.Stored.{byteBy, isAccepted}
 use Rattle.paper.specs.Readouts.{readsOut, clearsFifo}
 use Rattle.paper.specs.Samples.{isSample}
-use Rattle.rules.proofs.Reading.{depth-is, interrupts-seen}
+use Rattle.rules.proofs.Reading.{depth-is}
 use Rattle.demand2.specs.Demand2.{elsewhere}
 use Rattle.demand2.specs.Watermark.{watermarkBit, level, frameCount, frameSize, Reaches, setUpAt, goesOn, goOn, arrived, framesAskedBy, framesAsked, Watermark}
-use Rattle.demand2.proofs.Demand2.{elsewhere-is, out}
+use Rattle.demand2.proofs.Demand2.{status-seen, out}
 
 -- ---- tests and what they say
 tests : (enable : Bool) (level most many : ℕ)
@@ -51,7 +51,8 @@ not-seen false h = refl
 -- ---- after any events
 module _ (es : List Event) where
   seen-is : watermarkBit es ≡ watermarkStatus (elsewhere es) es
-  seen-is = interrupts-seen es .1 ∙ rw (elsewhere-is es)
+  unfolding elsewhere
+  seen-is = status-seen es 0x0A refl 6
 
   reached-here : (watermarkBit es ≡ true) ↔ Reaches es 32 (frameCount es)
   unfolding elsewhere

@@ -34,7 +34,7 @@ use Rattle.events.proofs.Runs.{bank-is}
 use Rattle.rules.specs.Bursts.{isBurst, singles}
 use Rattle.rules.specs.Data.{lastSample}
 use Rattle.rules.specs.Shown.{byteSeen, bitSeen}
-use Rattle.rules.specs.Rules.{Elsewhere, worthsAt, statusAddresses, dataStatus, fullStatus, watermarkStatus, statusesBy, ruled, ruledFrom, isTabled}
+use Rattle.rules.specs.Rules.{Elsewhere, worthsAt, statusAddresses, statusesBy, ruled, ruledFrom, isTabled}
 use Rattle.rules.proofs.Proper.{deep, proper}
 use Rattle.paper.proofs.Stored.{stored-is}
 use Rattle.rules.proofs.Bursts.{burst-bounds, single, single-next, burst-gives}
@@ -158,14 +158,11 @@ module _ (es : List Event) where
       ap (bit k) (at-any (λ a. byteSeen es a ≡ statusByte a (statusesNow es)) statusAddresses (seen 0x09 (omega arith), (seen 0x0A (omega arith), tt)) a m ∙ byte-worth a (statusesNow es))
       ∙ bit-is a (shownIn (statusesNow es) allStatuses) refl k
 
+  -- as the rules have it
+  pub rule-seen : (a : ℕ) → isIn statusAddresses a ≡ true → (k : ℕ) → bitSeen es a k ≡ holdsAt a k (statusesBy (elsewhereIn (after es)) es)
+  rule-seen a m k = status-seen a m k ∙ ap (holdsAt a k) (statuses-are es)
+
   -- "any-motion (0x09 bit 2)"
   pub motion-seen : bitSeen es 0x09 2 ≡ motionStatus (after es .detectors)
   unfolding statusesOf
   motion-seen = status-seen 0x09 refl 2
-
-  -- "data (0x0A bit 7)", "watermark (0x0A bit 6)", "full (0x0A bit 5)"
-  pub interrupts-seen : let w = elsewhereIn (after es) in (bitSeen es 0x0A 7 ≡ dataStatus w es) × (bitSeen es 0x0A 6 ≡ watermarkStatus w es) × (bitSeen es 0x0A 5 ≡ fullStatus w es)
-  interrupts-seen = (of 7, of 6, of 5)
-    where
-      of : (k : ℕ) → bitSeen es 0x0A k ≡ holdsAt 0x0A k (statusesBy (elsewhereIn (after es)) es)
-      of k = status-seen 0x0A refl k ∙ ap (holdsAt 0x0A k) (statuses-are es)
