@@ -1,13 +1,12 @@
 -- After any history the any-motion detector is the one that looking back tells. Assumes nothing.
-use Prim.Native.Nat.{ℕ, _-_, _%_, _≤_}
+use Prim.Native.Nat.{ℕ, _-_, _≤_}
 use mathlib.Core.Bool.{Bool, true, false}
 use mathlib.Core.List.{List, [], _∷_, map}
-use mathlib.Core.Path.{_≡_, refl, sym, ap, _∙_}
+use mathlib.Core.Path.{_≡_, refl, ap, _∙_}
 use native.Mathlib.Omega.{arith}
 use Rattle.laws.specs.Choice.{pick, both}
 use Rattle.laws.specs.Lists.{isIn}
 use Rattle.alarm.specs.Course as course
-use Rattle.alarm.specs.declared.Alarm.{Alarm}
 use Rattle.slopes.specs.Previous.{slopesTo}
 use Rattle.slopes.specs.Runs.{runsAfter}
 use Rattle.motion.specs.Detector.{afterPoint, afterSample, restarted}
@@ -16,7 +15,7 @@ use Rattle.motion.specs.declared.Settings.{Settings}
 use Rattle.motion.proofs.Clock.{byPoints, asDetector, ofDetector, clock-as}
 use Rattle.registers.specs.Deeds.{deedsOf, judgement}
 use Rattle.registers.specs.declared.Deeds.{Deeds}
-use Rattle.detectors.specs.Detectors.{allQuiet, motionSettings, detectorsSampled, detectorsClocked, detectorsWritten}
+use Rattle.detectors.specs.Detectors.{motionSettings, detectorsSampled, detectorsClocked, detectorsWritten}
 use Rattle.detectors.specs.declared.Detectors.{Detectors}
 use Rattle.events.specs.Event.{Event}
 use Rattle.events.specs.Run.{after}

@@ -3,13 +3,12 @@
 use Prim.Native.Nat.{ℕ, _-_, _%_}
 use mathlib.Core.Bool.{true}
 use mathlib.Core.List.{List, _∷_}
-use mathlib.Core.Path.{_≡_, refl, sym, ap, _∙_}
+use mathlib.Core.Path.{_≡_, refl, sym, _∙_}
 use native.Mathlib.Omega.{arith}
 use lib.Bits.{bitAnd, and-mask, and-zero-r, or-zero-r}
 use lib.Seq.{set-getD}
 use Rattle.table.specs.Rows.{rowAt, merged, writable, theTable}
 use Rattle.motion.specs.Detector.{restarted, clocked}
-use Rattle.motion.specs.declared.Motion.{Motion}
 use Rattle.motion.proofs.Clock.{clocked-reached}
 use Rattle.detectors.specs.Detectors.{detectorsClocked, detectorsWritten}
 use Rattle.registers.specs.Answers.{accepted}

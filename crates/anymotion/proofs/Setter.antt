@@ -7,10 +7,9 @@ use Rattle.events.specs.Event.{Event, bytes}
 use Rattle.rules.specs.Shown.{bitSeen}
 use Rattle.lookback.specs.Watch.{goingBy}
 use Rattle.lookback.specs.Seen.{seen}
-use Rattle.lookback.specs.Marks.{Setter}
 use Rattle.lookback.proofs.InRow.{setter-in-row, in-row-setter}
 use Rattle.lookback.proofs.Setter as lookback
-use Rattle.points.specs.Points.{OverAxes, isOver}
+use Rattle.points.specs.Points.{isOver}
 use Rattle.anymotion.specs.Status.{pointsAsked, anyMotion}
 use Rattle.anymotion.specs.Marks.{marksByte, SetAt, marksByteAt}
 use Rattle.anymotion.specs.Held.{reads}

@@ -1,44 +1,23 @@
 -- 01, "Interrupts and pins", any-motion, event by event: what clears the status, what the marks do, and what bit 3 outlasts.
 -- Assumes nothing.
-use Prim.Native.Nat.{ℕ, _%_}
-use mathlib.Core.Bool.{Bool, true, false}
+use Prim.Native.Nat.{_%_}
+use mathlib.Core.Bool.{true, false}
 use mathlib.Core.List.{List, [], _∷_}
-use mathlib.Core.Path.{_≡_, refl, sym, _∙_}
+use mathlib.Core.Path.{_≡_, sym, _∙_}
 use native.Mathlib.Numerals.{add-one}
-use lib.Dec.{eqb}
-use Rattle.laws.specs.Choice.{both, either}
 use Rattle.laws.specs.Bits.{bit}
-use Rattle.laws.specs.Lists.{isIn}
-use Rattle.events.specs.Event.{Event, powerUp, write, read, sample, cycle, clock}
-use Rattle.paper.specs.Stored.{startsAnew, byteBy, isAccepted}
-use Rattle.lookback.specs.InForce.{beginsAnew}
+use Rattle.events.specs.Event.{Event}
+use Rattle.paper.specs.Stored.{startsAnew, byteBy}
 use Rattle.lookback.specs.Sight.{point}
 use Rattle.lookback.specs.Watch.{restarts, pointAt}
 use Rattle.lookback.specs.Seen.{seen, expires, setsAt}
 use Rattle.lookback.specs.Marks.{signShown}
 use Rattle.lookback.proofs.Seen as lookback
 use Rattle.lookback.proofs.Stays as stays
-use Rattle.points.specs.Points.{forgets}
 use Rattle.anymotion.specs.Status.{anyMotion, isSet}
 use Rattle.anymotion.specs.Marks.{marksByte}
 use Rattle.anymotion.proofs.Detector.{sets-is, lawful}
 use Rattle.anymotion.proofs.Promise.{marks-apart}
-
--- what forgets restarts too
-forgets-restarts : (es : List Event) (e : Event) → forgets es e ≡ true → restarts anyMotion es e ≡ true
-unfolding beginsAnew
-forgets-restarts es powerUp h = refl
-forgets-restarts es (write a byte) h = go (startsAnew (write a byte)) (isAccepted es a byte) (eqb a 0x0F) (isIn (0x16 ∷ 0x21 ∷ 0x27 ∷ 0x28 ∷ []) a) h
-  where
-    go : (t s u v : Bool) → either t (both s (either u false)) ≡ true → either t (both s (either u v)) ≡ true
-    go true s u v h = refl
-    go false true true v h = refl
-    go false true false v h = cc
-    go false false u v h = cc
-forgets-restarts es (read a n) h = cc
-forgets-restarts es (sample x y z t) h = cc
-forgets-restarts es cycle h = cc
-forgets-restarts es (clock us) h = cc
 
 module _ (es : List Event) (e : Event) where
   -- "An accepted write to 0x0F, 0x16, 0x21, 0x27 or 0x28 clears status"
@@ -70,10 +49,6 @@ module _ (es : List Event) (e : Event) where
     -- and Q-4's expiry: "The status clears, with marks and runs", and bit 3 is none of these
     pub bit-3-over-expiry : expires anyMotion es e ≡ true → bit 3 (marksByte (e ∷ es)) ≡ bit 3 (marksByte es)
     bit-3-over-expiry x = of-sign (stays.sign-over-expiry anyMotion lawful es e old x)
-
-    -- and the write that forgets the previous sample too, which is one of them
-    pub bit-3-over-forgetting : forgets es e ≡ true → bit 3 (marksByte (e ∷ es)) ≡ bit 3 (marksByte es)
-    bit-3-over-forgetting f = bit-3-over-restart (forgets-restarts es e f)
 
     -- and calm points, also those that clear the status
     pub bit-3-over-calm : pointAt anyMotion es e ≡ [] ∷ [] → bit 3 (marksByte (e ∷ es)) ≡ bit 3 (marksByte es)

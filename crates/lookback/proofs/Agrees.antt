@@ -17,9 +17,8 @@ use Rattle.paper.specs.Samples.{microsecondsAt}
 use Rattle.lookback.specs.Sight.{Sight, point, passed}
 use Rattle.lookback.specs.Watch.{Mark, Watch, Going, goingBy, restarts, pointAt}
 use Rattle.lookback.specs.Seen.{isSetBy, sinceBy, seen, isSet, clockSince, expires, setsAt, markOf, marked}
-use Rattle.lookback.proofs.InForce.{anew-begins}
 use Rattle.lookback.proofs.Seen.{Lawful, Next, anew, rest, more, one, none, isClock, kept, expiry-when, expiry-not, below, next, marked-next}
-use Rattle.lookback.proofs.Parts.{Part, judgedBy, held, held-first, held-clock, held-anew, held-restarted, held-idle, held-judged}
+use Rattle.lookback.proofs.Parts.{Part, held, held-first, held-clock, held-anew, held-restarted, held-idle, held-judged}
 
 abbrev pub alarmBy : Bool → Mark → ℕ → Alarm
 alarmBy status m left = record { status = status; mark = pick status (m .axis) 0; negative = m .negative; remaining = pick status left 0 }
@@ -93,8 +92,8 @@ module _ (w : Watch) (l : Lawful w) (part : Part w) where
           let q : told es .alarm .remaining ≡ time - since = rw (k .0) in
           let n : us - (time - since) ≡ since + us - time = omega (arith, k .2, b, m) in
           clocked-on ∙ clocked-reached (part .course) (told es) us (rw q (omega (arith, b))) (rw q (omega (arith, k .2, m)))
-          ∙ rw (q, n)
-          (sym (told-next r (passed (since + us - time) ∷ []) s ∙ rw (part .passes (goingBy w es) (since + us - time) [], part .begins (goingBy w es), k .0)))
+          ∙ ap (λ (m : ℕ). record { run = part .course .later m (part .course .begun); alarm = cleared (told es .alarm) }) (ap (λ (m : ℕ). us - m) q ∙ n)
+          ∙ sym (told-next r (passed (since + us - time) ∷ []) s ∙ rw (part .passes (goingBy w es) (since + us - time) [], part .begins (goingBy w es), k .0))
 
     none-case : isClock e ≡ false → restarts w es e ≡ false → pointAt w es e ≡ [] → seen w (e ∷ es) ≡ seen w es → held w part (e ∷ es) ≡ told (e ∷ es)
     none-case c r f s = held-idle w part es e c r f ∙ h ∙ sym (told-next r (seen w es) s ∙ go (isSet w es))

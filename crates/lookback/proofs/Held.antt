@@ -12,8 +12,8 @@ use Rattle.laws.proofs.Finite.{right}
 use Rattle.events.specs.Event.{Event, clock}
 use Rattle.laws.specs.Bits.{worth}
 use Rattle.paper.specs.Samples.{isSample, valuesAt, microsecondsAt}
-use Rattle.lookback.specs.InForce.{timeAsked, beginsAnew}
-use Rattle.lookback.specs.Sight.{point, passed, pointsIn}
+use Rattle.lookback.specs.InForce.{beginsAnew}
+use Rattle.lookback.specs.Sight.{point, pointsIn}
 use Rattle.lookback.specs.Watch.{Watch, Going, goingBy, restarts, pointAmong, pointAt}
 use Rattle.lookback.specs.Seen.{isSetBy, sinceBy, seen, isSet, clockSince, expires, setsAt}
 use Rattle.lookback.specs.Held.{clockOver, samplesOver, NoneRestarts, SetFor, Clears, HeldFor}

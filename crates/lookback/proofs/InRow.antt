@@ -7,7 +7,6 @@ use mathlib.Core.Logic.{_↔_}
 use mathlib.Core.Path.{_≡_, refl, sym, ap, _∙_}
 use native.Mathlib.Omega.{arith}
 use lib.ListN.{length, take, drop, length-append, take-append-drop}
-use Rattle.laws.specs.Choice.{pick, both}
 use Rattle.laws.proofs.Finite.{left, right}
 use Rattle.lookback.specs.Sight.{Sight, point, passed, pointsIn}
 use Rattle.lookback.specs.Watch.{Watch, Going}

@@ -3,7 +3,7 @@
 use Prim.Native.Nat.{ℕ, _+_, _-_, _<_, _≤_}
 use mathlib.Core.Bool.{Bool, true, false, not}
 use mathlib.Core.List.{List, [], _∷_, _++_, map}
-use mathlib.Core.Path.{_≡_, refl, sym, ap, _∙_}
+use mathlib.Core.Path.{_≡_, refl, ap, _∙_}
 use native.Mathlib.Omega.{arith}
 use borrow.Author.Tests.{le-leb, leb-true, leb-false}
 use lib.Dec.{leb}
@@ -14,7 +14,7 @@ use Rattle.events.specs.Event.{Event, powerUp, write, read, sample, cycle, cloc
 use Rattle.events.specs.Views.{atClock}
 use Rattle.paper.specs.Samples.{Values, brings, microsecondsAt}
 use Rattle.lookback.specs.Sight.{Sight, point, passed}
-use Rattle.lookback.specs.Watch.{Mark, Watch, Going, goingBy, restarts, pointAmong, pointAt}
+use Rattle.lookback.specs.Watch.{Watch, goingBy, restarts, pointAmong, pointAt}
 use Rattle.lookback.specs.Seen.{isSetBy, sinceBy, sightsAt, seen, isSet, clockSince, expires, setsAt, markOf, marked}
 use Rattle.lookback.proofs.InForce.{in-force-kept, not-anew}
 

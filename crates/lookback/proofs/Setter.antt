@@ -9,7 +9,7 @@ use Rattle.events.specs.Event.{Event}
 use Rattle.lookback.specs.Sight.{Sight, point, passed}
 use Rattle.lookback.specs.Watch.{Mark, noMark, Watch, Going, goingBy, restarts, pointAt}
 use Rattle.lookback.specs.Seen.{isSetBy, seen, isSet, markOf, marked}
-use Rattle.lookback.specs.Came.{NoneClears, CameSet}
+use Rattle.lookback.specs.Came.{NoneClears}
 use Rattle.lookback.specs.Marks.{markShown, signShown, SetAt, Setter}
 use Rattle.lookback.proofs.Seen.{Lawful, Next, anew, rest, more, one, none, kept, next, marked-next}
 use Rattle.lookback.proofs.Came.{further, here, on, came-set}

@@ -1,13 +1,12 @@
 -- Any detector with an alarm, event by event: what clears the status, what the marks do, and what the sign outlasts. Assumes nothing.
-use Prim.Native.Nat.{ℕ}
 use mathlib.Core.Bool.{Bool, true, false, not}
 use mathlib.Core.List.{List, [], _∷_}
 use mathlib.Core.Path.{_≡_, refl, sym, ap, _∙_}
 use Rattle.laws.specs.Choice.{pick, both}
 use Rattle.events.specs.Event.{Event}
 use Rattle.paper.specs.Stored.{startsAnew}
-use Rattle.lookback.specs.Sight.{Sight, point}
-use Rattle.lookback.specs.Watch.{Mark, Watch, Going, goingBy, restarts, pointAt}
+use Rattle.lookback.specs.Sight.{point}
+use Rattle.lookback.specs.Watch.{Mark, Watch, goingBy, restarts, pointAt}
 use Rattle.lookback.specs.Seen.{isSetBy, seen, isSet, expires, setsAt, marked}
 use Rattle.lookback.specs.Marks.{markShown, signShown}
 use Rattle.lookback.proofs.InForce.{anew-begins}

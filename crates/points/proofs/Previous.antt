@@ -2,7 +2,7 @@
 use Prim.Native.Nat.{ℕ}
 use mathlib.Core.Bool.{Bool, true, false}
 use mathlib.Core.List.{List, [], _∷_, _++_}
-use mathlib.Core.Path.{_≡_, refl, sym, _∙_}
+use mathlib.Core.Path.{_≡_, refl, sym}
 use lib.Dec.{eqb}
 use Rattle.laws.specs.Choice.{pick, both, either}
 use Rattle.laws.specs.Lists.{isIn}
@@ -10,12 +10,10 @@ use Rattle.laws.proofs.Finite.{of-pick, either-false}
 use Rattle.slopes.specs.Previous.{noPrevious, forgotten}
 use Rattle.detectors.specs.Detectors.{allQuiet, detectorsSampled, detectorsClocked, detectorsWritten}
 use Rattle.detectors.specs.declared.Detectors.{Detectors}
-use Rattle.registers.specs.Answers.{accepted}
 use Rattle.registers.specs.Deeds.{isReset, deedsOf, judgement}
 use Rattle.registers.specs.declared.Deeds.{Deeds}
 use Rattle.registers.proofs.Verdicts.{resets-is}
 use Rattle.device.specs.Device as device
-use Rattle.device.specs.Sample.{sampleAnswer}
 use Rattle.events.specs.Event.{Event, powerUp, write, read, sample, cycle, clock}
 use Rattle.events.specs.Run.{after}
 use Rattle.events.specs.Bank.{bank}
