@@ -92,7 +92,7 @@ module _ (d : Device) (a byte : ℕ) where
   within h = omega arith
 
   is-reserved : ¬ AboveLast a → Means (reservedCode (d .regs) a byte) (ReservedWrite (reg d) a byte)
-  is-reserved h = same-test (reserved-is (d .regs) a byte)
+  is-reserved h = same-test (reserved-is (d .regs) a byte (within h))
 
   abbrev lacking : Bool
   lacking = notModelled (d .regs) (rowAt a) a byte

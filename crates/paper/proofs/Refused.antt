@@ -7,7 +7,7 @@ use mathlib.Core.Path.{_≡_, refl, _∙_}
 use native.Mathlib.Omega.{arith}
 use lib.Dec.{eqb, ltb}
 use lib.ListN.{getD}
-use borrow.Author.Tests.{eqb-true, ltb-true, ltb-false, le-leb, lt-leb}
+use borrow.Author.Tests.{ltb-true, ltb-false, le-leb, lt-leb}
 use Rattle.laws.specs.Bits.{bit}
 use Rattle.laws.specs.Choice.{pick, both, either}
 use Rattle.laws.specs.Keys.{Key, meaningOf}
@@ -50,14 +50,9 @@ module _ (regs : List ℕ) where
   abbrev pub heldIn : ℕ → ℕ
   heldIn a = getD regs a 0
 
-  pub reserved-is : (a b : ℕ) → reservedCode regs a b ≡ isReservedWrite heldIn a b
+  pub reserved-is : (a b : ℕ) → a < 64 → reservedCode regs a b ≡ isReservedWrite heldIn a b
   unfolding reservedCode isReservedWrite
-  reserved-is a b = go (eqb a 0x0F) refl (eqb a 0x3E) refl
-    where
-      go : (t : Bool) → eqb a 0x0F ≡ t → (s : Bool) → eqb a 0x3E ≡ s → reservedCode regs a b ≡ isReservedWrite heldIn a b
-      go true e s f = rw (eqb-true a 0x0F e) (reserved-range b)
-      go false e true f = rw (eqb-true a 0x3E f) (reserved-mode b)
-      go false e false f = rw (e, f)
+  reserved-is a b = alike (λ i. reservedCode regs i b) (λ i. isReservedWrite heldIn i b) 64 (rw (reserved-range b, reserved-mode b)) a
 
 -- ---- 11 to 13
 -- the bits that are refused at an address are of a byte
@@ -113,4 +108,4 @@ module _ (regs : List ℕ) where
       go false e =
           let h = ltb-false framesAt a e in
           let low : a < 64 = omega arith in
-          rw (e, le-leb a 0x3F h, reserved-is regs a b, lacking-is a b low) (tests (isReservedWrite (λ k. getD regs k 0) a b) (isLacking a b))
+          rw (e, le-leb a 0x3F h, reserved-is regs a b low, lacking-is a b low) (tests (isReservedWrite (λ k. getD regs k 0) a b) (isLacking a b))
