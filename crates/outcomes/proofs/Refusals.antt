@@ -11,6 +11,7 @@ use borrow.Author.Tests.{ne-eqb}
 use lib.Dec.{eqb, ltb}
 use lib.IntN.{ℤ, pos}
 use lib.ListN.{length}
+use Rattle.laws.specs.Bits.{bit}
 use Rattle.laws.specs.Choice.{pick, both, either}
 use Rattle.laws.specs.Lists.{isIn}
 use Rattle.laws.specs.Refusals.{row, due}
@@ -251,5 +252,5 @@ pub each-given : (d : Device)
     roomNumber (written [] 0 (1 ∷ []) .room) ∷
     number (writeOf d 0x18 0x04 .answer) ∷ number (writeOf d 0x11 0x20 .answer) ∷ number (writeOf d 0x38 0x01 .answer) ∷ []
     ≡ 0 ∷ 1 ∷ 2 ∷ 4 ∷ 5 ∷ 6 ∷ 7 ∷ 8 ∷ 9 ∷ 10 ∷ 11 ∷ 12 ∷ 13 ∷ []
-unfolding writeOf judgement answerAt reservedCode rangeOf modeOf notModelled lackAt theTable readOf readAnswer sampleOf sampleAnswer readVersion readHead foundIn roomFor
+unfolding writeOf judgement answerAt reservedCode rangeOf modeOf bit notModelled lackAt theTable readOf readAnswer sampleOf sampleAnswer readVersion readHead foundIn roomFor
 each-given d = refl

@@ -8,6 +8,7 @@ use native.Mathlib.Omega.{arith}
 use lib.Dec.{eqb}
 use lib.ListN.{length, getD}
 use borrow.Author.Tests.{eqb-true}
+use Rattle.laws.specs.Bits.{bit}
 use Rattle.laws.specs.Choice.{pick, both, either}
 use Rattle.laws.proofs.Finite.{picked, alike, left}
 use Rattle.codes.specs.Addresses.{controlAt}
@@ -40,7 +41,7 @@ use Rattle.paper.proofs.Writes.{isStored, byteWritten, byte-written, byte-next,
 -- ---- the registers
 -- the reset byte is one that a write leaves
 first-written : (a : ℕ) → a < 64 → writable a ≡ true → LeftByWrite a (getD firstBytes a 0)
-unfolding firstBytes theTable answerAt reservedCode notModelled rangeOf modeOf
+unfolding firstBytes theTable answerAt reservedCode notModelled rangeOf modeOf bit
 first-written a h w =
     let is = alike (λ i. getD firstBytes i 0) (λ i. pick (writable i) (merged (rowAt i) (getD firstBytes i 0)) (getD firstBytes i 0)) 64 refl a h in
     record {
