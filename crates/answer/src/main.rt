@@ -11,7 +11,7 @@ use stream::Ended;
 
 // How the answer that was asked for came to its end.
 fn tell_answered(wanted: Wanted, ended: Ended)
-    requires { ⌜ AnsweredAs wanted (ended .how) (ended .whole) ⌝ }
+    requires { ⌜ AnsweredAs wanted ended ⌝ }
 {
     ending::tell_end(b"answer", ended);
 }

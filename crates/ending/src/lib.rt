@@ -2,7 +2,7 @@
 // A program has no status of its own: its digit goes to descriptor 3, for a caller that opens it.
 ghost use mathlib.Core.Path.{_≡_};
 ghost use Rattle.stream.specs.Pump.{statusOf};
-ghost use Rattle.ending.specs.Ending.{digitOf, misused};
+ghost use Rattle.ending.specs.Ending.{digitOf, misused, wholeUpTo};
 use libc::STDERR_FILENO;
 use stream::Ended;
 use stream::How;
@@ -34,8 +34,10 @@ fn give_misused(digit: u8)
     io::write_all(STATUS_FILENO, &[digit]);
 }
 
-// What failed, and the last record of the last text that was written whole.
-fn tell_failed(program: &[u8], what: &[u8], whole: u64) {
+// What failed, and the record up to which the text is whole.
+fn tell_failed(program: &[u8], what: &[u8], ended: Ended, whole: u64)
+    requires { ⌜ whole ≡ wholeUpTo ended ⌝ }
+{
     io::write_all(STDERR_FILENO, program);
     io::write_all(STDERR_FILENO, b": ");
     io::write_all(STDERR_FILENO, what);
@@ -47,11 +49,14 @@ fn tell_failed(program: &[u8], what: &[u8], whole: u64) {
 // The end of a program, by its name, behind its pump.
 pub fn tell_end(program: &[u8], ended: Ended) {
     let how = ended.how;
+    let task = ended.task;
+    let job = ended.job;
+    let whole = job.records(task);
     match how {
-        How::On => tell_failed(program, b"the input is too long", ended.whole),
+        How::On => tell_failed(program, b"the input is too long", ended, whole),
         How::Stopped(_) => {}
-        How::NotRead => tell_failed(program, b"the input cannot be read", ended.whole),
-        How::NotWritten => tell_failed(program, b"the output cannot be written", ended.whole),
+        How::NotRead => tell_failed(program, b"the input cannot be read", ended, whole),
+        How::NotWritten => tell_failed(program, b"the output cannot be written", ended, whole),
     }
     give_ended(how, digit_of(status_of(how)));
 }

@@ -1,84 +1,72 @@
--- A job of either kind runs and prints as the one that it is made of.
+-- Whoever works at a task runs and prints with the whole job as he does with his part of it, and leaves the rest of it as it is.
 -- Assumes nothing.
 use Prim.Native.Nat.{ℕ}
-use mathlib.Core.Bool.{Bool, true, false}
+use mathlib.Core.Bool.{Bool}
 use mathlib.Core.List.{List}
-use mathlib.Core.Path.{_≡_, refl}
-use Rattle.laws.specs.Choice.{pick}
-use Rattle.benchlog.specs.declared.Entry.{Entry}
-use Rattle.follow.specs.Source.{records}
-use Rattle.follow.specs.Teller.{Teller, Lawful}
-use Rattle.follow.specs.Follow.{Turn, Running, runOf}
+use mathlib.Core.Path.{_≡_, refl, sym, ap, _∙_}
+use Rattle.follow.specs.Teller.{Lawful}
+use Rattle.follow.specs.Follow.{Running, runOf}
 use Rattle.follow.specs.Whole.{printedFrom}
 use Rattle.follow.specs.declared.Next.{Next}
 use Rattle.follow.proofs.Maps.{Respects, imageOf, run-image, printed-image}
-use Rattle.playback.specs.Replay as replay
-use Rattle.playback.specs.Replay.{replayer}
-use Rattle.playback.specs.declared.Replay.{Replay}
-use Rattle.answers.specs.Answer as answer
-use Rattle.answers.specs.Answer.{answerer}
-use Rattle.answers.specs.declared.Answering.{Answering}
-use Rattle.answers.specs.declared.Asked.{Asked}
-use Rattle.answers.specs.declared.Asked.the-variants.{Stretches}
-use Rattle.jobs.specs.Job.{replayJob, answerJob, inKind, toReplay, toAnswer, worker}
+use Rattle.playback.specs.Replay.{replays}
+use Rattle.answers.specs.Answer.{answers}
+use Rattle.jobs.specs.Job.{Seat, seat, working, worker, printedBy}
 use Rattle.jobs.specs.declared.Job.{Job}
+use Rattle.jobs.specs.declared.Task.{Task}
+use Rattle.jobs.specs.declared.Task.the-variants as task
 
--- ---- behind the version byte, and behind a record, the version byte is past
-pub works : Lawful worker
-works = record { begins = λ j. first j (j .answers); stays = λ j e. later j e (j .answers) }
-  where
-    first : (j : Job) (b : Bool) → worker .begun (pick b (answerJob (j .replay) (answerer .begin (j .answering))) (replayJob (j .answering) (replayer .begin (j .replay)))) ≡ true
-    first j true = refl
-    first j false = refl
+-- ---- what is his part is what he put there last, and nothing else is touched
+record Seated (p : Seat) : Type 0 where
+  lawful : Lawful (p .teller)
+  there : (j : Job) (s : p .teller .State) → p .part (p .put j s) ≡ s
+  again : (j : Job) (s s′ : p .teller .State) → p .put (p .put j s) s′ ≡ p .put j s′
+  same : (j : Job) → p .put j (p .part j) ≡ j
 
-    later : (j : Job) (e : Entry) (b : Bool) → worker .begun (pick b (answerJob (j .replay) (answerer .next (j .answering) e)) (replayJob (j .answering) (replayer .next (j .replay) e))) ≡ true
-    later j e true = refl
-    later j e false = refl
+seated : (k : Task) → Seated (seat k)
+seated task.Replay = record { lawful = replays; there = λ j s. refl; again = λ j s s′. refl; same = λ j. refl }
+seated task.Answer = record { lawful = answers; there = λ j s. refl; again = λ j s s′. refl; same = λ j. refl }
 
--- ---- the image of each of the two says the same and moves on alike
-replay-alike : (a : Answering) → Respects replayer worker (replayJob a)
-replay-alike a = record { begun = λ s. refl; begin = λ s. refl; text = λ s e. refl; next = λ s e. refl; last = λ s refusal. refl }
+-- ---- at any seat
+module _ (p : Seat) (at : Seated p) where
+  -- behind the version byte, and behind a record, the version byte is past
+  works-at : Lawful (working p)
+  works-at = record {
+    begins = λ j. ap (p .teller .begun) (at .there j _) ∙ at .lawful .begins (p .part j);
+    stays = λ j e. ap (p .teller .begun) (at .there j _) ∙ at .lawful .stays (p .part j) e;
+  }
 
-answer-alike : (r : Replay) → Respects answerer worker (answerJob r)
-answer-alike r = record { begun = λ s. refl; begin = λ s. refl; text = λ s e. refl; next = λ s e. refl; last = λ s refusal. refl }
+  -- with the job he says the same and moves on alike
+  alike : (j : Job) → Respects (p .teller) (working p) (p .put j)
+  alike j = record {
+    begun = λ s. ap (p .teller .begun) (at .there j s);
+    begin = λ s. at .again j s _ ∙ ap (λ (x : p .teller .State). p .put j (p .teller .begin x)) (at .there j s);
+    text = λ s e. ap (λ (x : p .teller .State). p .teller .text x e) (at .there j s);
+    next = λ s e. at .again j s _ ∙ ap (λ (x : p .teller .State). p .put j (p .teller .next x e)) (at .there j s);
+    last = λ s refusal. ap (λ (x : p .teller .State). p .teller .last x refusal) (at .there j s);
+  }
 
--- ---- runs
-module _ (t : Teller records) (image : t .State → Job) where
-  running-image : {out out′ : List ℕ} {u : Turn t} {next : Next} {refusal : ℕ} {s : t .State} {used to : ℕ} → Running t out u out′ next refusal s used to
-      → Running worker out (imageOf t worker image u) out′ next refusal (image s) used to
-  running-image r = record { next-is = r .next-is; refusal-is = r .refusal-is; state-is = rw (r .state-is); used-is = r .used-is; text-is = r .text-is }
+  module _ (j : Job) (l : List ℕ) (last : Bool) (room : ℕ) where
+    run-at : runOf (working p) j l last room ≡ imageOf (p .teller) (working p) (p .put j) (runOf (p .teller) (p .part j) l last room)
+    run-at = ap (λ (x : Job). runOf (working p) x l last room) (sym (at .same j)) ∙ run-image (p .teller) (working p) (p .put j) (alike j) l last (p .part j) room
 
-module _ (j : Job) (l : List ℕ) (last : Bool) (room : ℕ) where
-  replay-run : runOf worker (inKind false j) l last room ≡ imageOf replayer worker (replayJob (j .answering)) (runOf replayer (j .replay) l last room)
-  replay-run = run-image replayer worker (replayJob (j .answering)) (replay-alike (j .answering)) l last (j .replay) room
+    runs-at : {out out′ : List ℕ} {next : Next} {refusal used to : ℕ} {s : p .teller .State}
+        → Running (p .teller) out (runOf (p .teller) (p .part j) l last room) out′ next refusal s used to
+        → Running (working p) out (runOf (working p) j l last room) out′ next refusal (p .put j s) used to
+    runs-at r = rw run-at (record { next-is = r .next-is; refusal-is = r .refusal-is; state-is = ap (p .put j) (r .state-is); used-is = r .used-is; text-is = r .text-is })
 
-  answer-run : runOf worker (inKind true j) l last room ≡ imageOf answerer worker (answerJob (j .replay)) (runOf answerer (j .answering) l last room)
-  answer-run = run-image answerer worker (answerJob (j .replay)) (answer-alike (j .replay)) l last (j .answering) room
+  printed-at : (j : Job) (log : List ℕ) → printedFrom (working p) j log ≡ printedFrom (p .teller) (p .part j) log
+  printed-at j log = ap (λ (x : Job). printedFrom (working p) x log) (sym (at .same j)) ∙ printed-image (p .teller) (working p) (p .put j) (alike j) (p .part j) log
 
-  module _ {out out′ : List ℕ} {next : Next} {refusal used to : ℕ} where
-    pub replay-runs : {s : Replay} → Running replayer out (runOf replayer (j .replay) l last room) out′ next refusal s used to
-        → Running worker out (runOf worker (inKind false j) l last room) out′ next refusal (replayJob (j .answering) s) used to
-    replay-runs r = rw replay-run (running-image replayer (replayJob (j .answering)) r)
+-- ---- at a task
+module _ (k : Task) where
+  pub works : Lawful (worker k)
+  works = works-at (seat k) (seated k)
 
-    pub answer-runs : {s : Answering} → Running answerer out (runOf answerer (j .answering) l last room) out′ next refusal s used to
-        → Running worker out (runOf worker (inKind true j) l last room) out′ next refusal (answerJob (j .replay) s) used to
-    answer-runs r = rw answer-run (running-image answerer (answerJob (j .replay)) r)
+  pub runs : (j : Job) (l : List ℕ) (last : Bool) (room : ℕ) {out out′ : List ℕ} {next : Next} {refusal used to : ℕ} {s : seat k .teller .State}
+      → Running (seat k .teller) out (runOf (seat k .teller) (seat k .part j) l last room) out′ next refusal s used to
+      → Running (worker k) out (runOf (worker k) j l last room) out′ next refusal (seat k .put j s) used to
+  runs = runs-at (seat k) (seated k)
 
--- a job is of its own kind
-pub in-kind : (answers : Bool) (j : Job) → answers ≡ j .answers → inKind answers j ≡ j
-in-kind answers j e = λ i. record { answers = e i; replay = j .replay; answering = j .answering }
-
--- and stays so
-pub kind-kept : (j : Job) (l : List ℕ) (last : Bool) (room : ℕ) → runOf worker j l last room .state .answers ≡ j .answers
-kind-kept j l last room = go (j .answers) refl
-  where
-    go : (b : Bool) → b ≡ j .answers → runOf worker j l last room .state .answers ≡ j .answers
-    go true e = rw (← in-kind true j e, answer-run j l last room)
-    go false e = rw (← in-kind false j e, replay-run j l last room)
-
--- ---- whole logs
-pub replay-printed : (pins : Bool) (log : List ℕ) → printedFrom worker (toReplay pins) log ≡ replay.printed pins log
-replay-printed pins log = printed-image replayer worker (replayJob (answer.start Stretches)) (replay-alike (answer.start Stretches)) (replay.start pins) log
-
-pub answer-printed : (asked : Asked) (log : List ℕ) → printedFrom worker (toAnswer asked) log ≡ answer.printed asked log
-answer-printed asked log = printed-image answerer worker (answerJob (replay.start false)) (answer-alike (replay.start false)) (answer.start asked) log
+  pub printed-by : (j : Job) (log : List ℕ) → printedFrom (worker k) j log ≡ printedBy k j log
+  printed-by = printed-at (seat k) (seated k)

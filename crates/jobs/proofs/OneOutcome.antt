@@ -6,7 +6,11 @@ use Rattle.laws.proofs.Outcome.{settles, meet}
 use Rattle.jobs.proofs.Job.to_replay as to-replay
 use Rattle.jobs.proofs.Job.to_answer as to-answer
 use Rattle.jobs.proofs.Job.records as records
+use Rattle.jobs.proofs.task_of as task-of
 use Rattle.jobs.proofs.run as run
+
+pub task-of-settled : Settled task-of.ended (λ M. task-of.clauses) (λ M. task-of.spec)
+task-of-settled = settles (λ κs a r r′ s s′ p q. (meet p q, refl))
 
 pub to-replay-settled : Settled to-replay.ended (λ M. to-replay.clauses) (λ M. to-replay.spec)
 to-replay-settled = settles (λ κs a r r′ s s′ p q. (meet p q, refl))

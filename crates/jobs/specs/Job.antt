@@ -1,9 +1,12 @@
--- Who follows a log for a program: the replay, or the answer.
+-- Who follows a log for a program, by its task: the replay, or the answer.
 use Prim.Native.Nat.{ℕ, _-_}
-use mathlib.Core.Bool.{Bool, true, false}
+use mathlib.Core.Bool.{Bool, false}
+use mathlib.Core.List.{List}
+use lib.Dec.{eqb}
 use Rattle.laws.specs.Choice.{pick}
 use Rattle.follow.specs.Source.{records}
 use Rattle.follow.specs.Teller.{Teller}
+use Rattle.follow.specs.Whole.{printedFrom}
 use Rattle.playback.specs.Replay as replay
 use Rattle.playback.specs.Replay.{replayer}
 use Rattle.playback.specs.declared.Replay.{Replay}
@@ -13,35 +16,56 @@ use Rattle.answers.specs.declared.Answering.{Answering}
 use Rattle.answers.specs.declared.Asked.{Asked}
 use Rattle.answers.specs.declared.Asked.the-variants.{Stretches}
 use Rattle.jobs.specs.declared.Job.{Job}
+use Rattle.jobs.specs.declared.Task.{Task}
+use Rattle.jobs.specs.declared.Task.the-variants as task
 
--- a job of either kind: the other one's state stays as it is
-abbrev pub replayJob : Answering → Replay → Job
-replayJob a r = record { answers = false; replay = r; answering = a }
+-- the tasks by number
+abbrev pub taskOf : ℕ → Task
+taskOf n = pick (eqb n 0) task.Replay task.Answer
 
-abbrev pub answerJob : Replay → Answering → Job
-answerJob r a = record { answers = true; replay = r; answering = a }
+-- a job with another state of one task: those of the others stay as they are
+abbrev pub withReplay : Job → Replay → Job
+withReplay j r = record { replay = r; answering = j .answering }
 
--- a job taken for one of the kind that is said
-abbrev pub inKind : Bool → Job → Job
-inKind answers j = record { answers = answers; replay = j .replay; answering = j .answering }
+abbrev pub withAnswering : Job → Answering → Job
+withAnswering j a = record { replay = j .replay; answering = a }
+
+-- who works at a task, and which part of a job is his
+pub record Seat : Type 1 where
+  pub teller : Teller records
+  pub part : Job → teller .State
+  pub put : Job → teller .State → Job
+
+abbrev pub seat : Task → Seat
+seat task.Replay = record { teller = replayer; part = λ j. j .replay; put = withReplay }
+seat task.Answer = record { teller = answerer; part = λ j. j .answering; put = withAnswering }
+
+-- he follows a log, and moves his part of the job on
+abbrev pub working : Seat → Teller records
+working p = record {
+  State = Job;
+  begun = λ j. p .teller .begun (p .part j);
+  begin = λ j. p .put j (p .teller .begin (p .part j));
+  text = λ j e. p .teller .text (p .part j) e;
+  next = λ j e. p .put j (p .teller .next (p .part j) e);
+  last = λ j refusal. p .teller .last (p .part j) refusal;
+}
+
+abbrev pub worker : Task → Teller records
+worker k = working (seat k)
+
+-- what he prints of a log, by his part of a job
+abbrev pub printedBy : Task → Job → List ℕ → List ℕ
+printedBy k j = printedFrom (seat k .teller) (seat k .part j)
 
 -- before the version byte
 abbrev pub toReplay : Bool → Job
-toReplay pins = replayJob (answer.start Stretches) (replay.start pins)
+toReplay pins = record { replay = replay.start pins; answering = answer.start Stretches }
 
 abbrev pub toAnswer : Asked → Job
-toAnswer asked = answerJob (replay.start false) (answer.start asked)
+toAnswer asked = record { replay = replay.start false; answering = answer.start asked }
 
-abbrev pub worker : Teller records
-worker = record {
-  State = Job;
-  begun = λ j. pick (j .answers) (answerer .begun (j .answering)) (replayer .begun (j .replay));
-  begin = λ j. pick (j .answers) (answerJob (j .replay) (answerer .begin (j .answering))) (replayJob (j .answering) (replayer .begin (j .replay)));
-  text = λ j e. pick (j .answers) (answerer .text (j .answering) e) (replayer .text (j .replay) e);
-  next = λ j e. pick (j .answers) (answerJob (j .replay) (answerer .next (j .answering) e)) (replayJob (j .answering) (replayer .next (j .replay) e));
-  last = λ j refusal. pick (j .answers) (answerer .last (j .answering) refusal) (replayer .last (j .replay) refusal);
-}
-
--- how many records came
-abbrev pub recordCount : Job → ℕ
-recordCount j = pick (j .answers) (j .answering .account .number) (j .replay .number - 1)
+-- how many records came to a task
+abbrev pub recordCount : Task → Job → ℕ
+recordCount task.Replay j = j .replay .number - 1
+recordCount task.Answer j = j .answering .account .number

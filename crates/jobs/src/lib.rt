@@ -1,18 +1,36 @@
-// Who follows a log for a program: the replay, or the answer. One pump serves both.
+// Who follows a log for a program, by its task: the replay, or the answer. One pump serves them all.
 ghost use Prim.Native.Nat.{_-_};
-ghost use mathlib.Core.Bool.{true, false};
 ghost use mathlib.Core.Path.{_≡_};
 ghost use lib.ListN.{length};
 ghost use Rattle.follow.specs.Follow.{runOf, Running};
-ghost use Rattle.jobs.specs.Job.{inKind, toReplay, toAnswer, worker, recordCount};
+ghost use Rattle.jobs.specs.Job.{taskOf, toReplay, toAnswer, worker, recordCount};
 use answers::Answering;
 use answers::Asked;
 use follow::Next;
 use playback::Replay;
 
-// Which of the two it is, and the states of both: the other one's stays as it is.
+// What a program does with a log.
+pub enum Task {
+    Replay,
+    Answer,
+}
+
+// The tasks by number.
+pub const REPLAY: u8 = 0;
+
+pub const ANSWER: u8 = 1;
+
+pub fn task_of(number: u8) -> Task
+    ensures { λ r. ⌜ r ≡ taskOf number ⌝ }
+{
+    match number {
+        0 => Task::Replay,
+        _ => Task::Answer,
+    }
+}
+
+// The states of all tasks. Whoever follows a log moves that of his own task on; the others stay as they are.
 pub struct Job {
-    answers: bool,
     replay: Replay,
     answering: Answering,
 }
@@ -40,7 +58,6 @@ impl Job {
         ensures { λ r. ⌜ r ≡ toReplay pins ⌝ }
     {
         Job {
-            answers: false,
             replay: Replay::start(pins),
             answering: Answering::start(Asked::Stretches),
         }
@@ -51,29 +68,27 @@ impl Job {
         ensures { λ r. ⌜ r ≡ toAnswer asked ⌝ }
     {
         Job {
-            answers: true,
             replay: Replay::start(false),
             answering: Answering::start(asked),
         }
     }
 
-    // How many records came.
-    pub fn records(self) -> u64
-        ensures { λ r. ⌜ r ≡ recordCount self ⌝ }
+    // How many records came to a task.
+    pub fn records(self, task: Task) -> u64
+        ensures { λ r. ⌜ r ≡ recordCount task self ⌝ }
     {
         let replay = self.replay;
         let answering = self.answering;
-        if self.answers {
-            answering.records()
-        } else {
-            record_before(replay.next_number())
+        match task {
+            Task::Replay => record_before(replay.next_number()),
+            Task::Answer => answering.records(),
         }
     }
 }
 
 // A run of the replay, and one of the answer.
 fn run_replay(job: Job, log: &[u8], last: bool, out: &mut [u8]) -> Ran
-    ensures { λ r. ⌜ Running worker (now (out .entry)) (runOf worker (inKind false job) (now (log .entry)) last (length (now (out .entry)))) (now (out .exit)) (r .next) (r .refusal) (r .job) (r .used) (r .to) ⌝ }
+    ensures { λ r. ⌜ Running (worker Task.Replay) (now (out .entry)) (runOf (worker Task.Replay) job (now (log .entry)) last (length (now (out .entry)))) (now (out .exit)) (r .next) (r .refusal) (r .job) (r .used) (r .to) ⌝ }
 {
     let replay = job.replay;
     let answering = job.answering;
@@ -83,18 +98,14 @@ fn run_replay(job: Job, log: &[u8], last: bool, out: &mut [u8]) -> Ran
     Ran {
         next,
         refusal: ran.refusal,
-        job: Job {
-            answers: false,
-            replay,
-            answering,
-        },
+        job: Job { replay, answering },
         used: ran.used,
         to: ran.to,
     }
 }
 
 fn run_answer(job: Job, log: &[u8], last: bool, out: &mut [u8]) -> Ran
-    ensures { λ r. ⌜ Running worker (now (out .entry)) (runOf worker (inKind true job) (now (log .entry)) last (length (now (out .entry)))) (now (out .exit)) (r .next) (r .refusal) (r .job) (r .used) (r .to) ⌝ }
+    ensures { λ r. ⌜ Running (worker Task.Answer) (now (out .entry)) (runOf (worker Task.Answer) job (now (log .entry)) last (length (now (out .entry)))) (now (out .exit)) (r .next) (r .refusal) (r .job) (r .used) (r .to) ⌝ }
 {
     let replay = job.replay;
     let answering = job.answering;
@@ -104,25 +115,19 @@ fn run_answer(job: Job, log: &[u8], last: bool, out: &mut [u8]) -> Ran
     Ran {
         next,
         refusal: ran.refusal,
-        job: Job {
-            answers: true,
-            replay,
-            answering,
-        },
+        job: Job { replay, answering },
         used: ran.used,
         to: ran.to,
     }
 }
 
-// As many steps as there is input and room for, by whoever follows the log. Which of the two that is goes beside the job, as a flag of
-// its own: a program that says the same at every call is compiled without the other, and then each event of the device is called from
-// one place.
-pub fn run(answers: bool, job: Job, log: &[u8], last: bool, out: &mut [u8]) -> Ran
-    ensures { λ r. ⌜ Running worker (now (out .entry)) (runOf worker (inKind answers job) (now (log .entry)) last (length (now (out .entry)))) (now (out .exit)) (r .next) (r .refusal) (r .job) (r .used) (r .to) ⌝ }
+// As many steps as there is input and room for, by whoever follows the log. The task goes beside the job, and by its number: a program
+// that says the same at every call is compiled without the others, and then each event of the device is called from one place.
+pub fn run(task: u8, job: Job, log: &[u8], last: bool, out: &mut [u8]) -> Ran
+    ensures { λ r. ⌜ Running (worker (taskOf task)) (now (out .entry)) (runOf (worker (taskOf task)) job (now (log .entry)) last (length (now (out .entry)))) (now (out .exit)) (r .next) (r .refusal) (r .job) (r .used) (r .to) ⌝ }
 {
-    if answers {
-        run_answer(job, log, last, out)
-    } else {
-        run_replay(job, log, last, out)
+    match task {
+        0 => run_replay(job, log, last, out),
+        _ => run_answer(job, log, last, out),
     }
 }

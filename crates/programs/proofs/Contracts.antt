@@ -5,17 +5,18 @@ use Rattle.laws.specs.Outcome.{SourceClauses, promised}
 use Rattle.playback.specs.Replay as replay
 use Rattle.answers.specs.Answer as answer
 use Rattle.jobs.specs.Job.{toReplay, toAnswer}
+use Rattle.jobs.specs.declared.Task.the-variants as task
 use Rattle.stream.specs.Pump.{PumpedAs, statusOf}
 use Rattle.stream.proofs.pump_replay as pump-replay
 use Rattle.stream.proofs.pump_answer as pump-answer
 use Rattle.stream.proofs.status_of as status-of
 
 pub replay-contract : _≡_ {A = SourceClauses pump-replay.ended} (λ M. pump-replay.clauses)
-    (promised pump-replay.ended (λ κs a r e. let pins = a .1 .1 .0 in PumpedAs (replay.printed pins) (toReplay pins) (r .how) (r .whole)))
+    (promised pump-replay.ended (λ κs a r e. let pins = a .1 .1 .0 in PumpedAs (r .how) (replay.printed pins) task.Replay (toReplay pins) r))
 replay-contract = refl
 
 pub answer-contract : _≡_ {A = SourceClauses pump-answer.ended} (λ M. pump-answer.clauses)
-    (promised pump-answer.ended (λ κs a r e. let asked = a .1 .1 .0 in PumpedAs (answer.printed asked) (toAnswer asked) (r .how) (r .whole)))
+    (promised pump-answer.ended (λ κs a r e. let asked = a .1 .1 .0 in PumpedAs (r .how) (answer.printed asked) task.Answer (toAnswer asked) r))
 answer-contract = refl
 
 pub status-contract : _≡_ {A = SourceClauses status-of.ended} (λ M. status-of.clauses) (promised status-of.ended (λ κs a r e. r ≡ statusOf (a .0)))

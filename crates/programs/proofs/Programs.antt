@@ -24,7 +24,10 @@ use Rattle.answers.specs.Answer as answer
 use Rattle.answers.specs.declared.Asked.{Asked}
 use Rattle.jobs.specs.Job.{worker, toReplay, toAnswer}
 use Rattle.jobs.specs.declared.Job.{Job}
+use Rattle.jobs.specs.declared.Task.{Task}
+use Rattle.jobs.specs.declared.Task.the-variants as task
 use Rattle.stream.specs.Pump.{PumpedAs, statusOf}
+use Rattle.stream.specs.declared.Ended.{Ended}
 use Rattle.stream.specs.declared.How.{How}
 use Rattle.stream.specs.declared.How.the-variants.{On, Stopped, NotRead, NotWritten}
 use Rattle.stream.proofs.Blocks.{stopped-by}
@@ -87,15 +90,15 @@ log-listed log = go (readVersion log .begins)
     go begins.Empty = inr (inr (inr refl))
 
 -- ---- of a pump that begins before the version byte
-module _ (printed : List ℕ → List ℕ) (job : Job) (off : worker .begun job ≡ false) where
-  module _ (how : How) (whole : ℕ) (log : List ℕ) (f : Followed printed job how whole log) where
+module _ (printed : List ℕ → List ℕ) (k : Task) (job : Job) (off : worker k .begun job ≡ false) where
+  module _ (ended : Ended) (log : List ℕ) (f : Followed printed k job ended log) where
     abbrev refusal : ℕ
     refusal = f .refusal
 
     abbrev number : ℕ
     number = readLog log .stop
 
-    status-is : statusOf how ≡ statusOf (Stopped refusal)
+    status-is : statusOf (ended .how) ≡ statusOf (Stopped refusal)
     status-is = ap statusOf (f .how-is)
 
     -- what stopped its last run is the number of the log
@@ -103,7 +106,7 @@ module _ (printed : List ℕ → List ℕ) (job : Job) (off : worker .begun job 
     number-is =
         let last = f .stopped .last in
         let by = stopped-by (last .done) (f .rest) (f .may) (last .room) (last .turned .0) in
-        let printed-is = sym (log-number worker log job off) ∙ ap (printedFrom (stopper worker) job) (f .log-is) ∙ by in
+        let printed-is = sym (log-number (worker k) log job off) ∙ ap (printedFrom (stopper (worker k)) job) (f .log-is) ∙ by in
         ap (λ (l : List ℕ). getD l 0 0) printed-is ∙ last .turned .1
 
     due : (n : ℕ) → number ≡ n → DueOfLog log n
@@ -112,14 +115,14 @@ module _ (printed : List ℕ → List ℕ) (job : Job) (off : worker .begun job 
     only : (n : ℕ) → DueOfLog log n → n ≡ refusal
     only n is = sym (demand1 .of-log log n .1 is) ∙ number-is
 
-    done-is : (statusOf how ≡ 0) ↔ DueOfLog log 0
+    done-is : (statusOf (ended .how) ≡ 0) ↔ DueOfLog log 0
     done-is = (λ e. go (stopped-status refusal (eqb refusal 0) refl) e, λ is. rw (status-is, ← only 0 is))
       where
-        go : ((refusal ≡ 0) × (statusOf (Stopped refusal) ≡ 0)) ⊎ ((refusal ≡ 0 → ⊥) × (statusOf (Stopped refusal) ≡ 3)) → statusOf how ≡ 0 → DueOfLog log 0
+        go : ((refusal ≡ 0) × (statusOf (Stopped refusal) ≡ 0)) ⊎ ((refusal ≡ 0 → ⊥) × (statusOf (Stopped refusal) ≡ 3)) → statusOf (ended .how) ≡ 0 → DueOfLog log 0
         go (inl p) e = due 0 (number-is ∙ p .0)
         go (inr p) e = let z = sym (p .1) ∙ sym status-is ∙ e in absurd (omega arith)
 
-    refused-is : (statusOf how ≡ 3) ↔ (DueOfLog log 7 ⊎ (DueOfLog log 8 ⊎ DueOfLog log 9))
+    refused-is : (statusOf (ended .how) ≡ 3) ↔ (DueOfLog log 7 ⊎ (DueOfLog log 8 ⊎ DueOfLog log 9))
     refused-is = (λ e. go (stopped-status refusal (eqb refusal 0) refl) e, back)
       where
         by-number : (number ≡ 0 → ⊥) → Listed number → DueOfLog log 7 ⊎ (DueOfLog log 8 ⊎ DueOfLog log 9)
@@ -128,26 +131,26 @@ module _ (printed : List ℕ → List ℕ) (job : Job) (off : worker .begun job 
         by-number some (inr (inr (inl e))) = inr (inl (due 8 e))
         by-number some (inr (inr (inr e))) = inr (inr (due 9 e))
 
-        go : ((refusal ≡ 0) × (statusOf (Stopped refusal) ≡ 0)) ⊎ ((refusal ≡ 0 → ⊥) × (statusOf (Stopped refusal) ≡ 3)) → statusOf how ≡ 3
+        go : ((refusal ≡ 0) × (statusOf (Stopped refusal) ≡ 0)) ⊎ ((refusal ≡ 0 → ⊥) × (statusOf (Stopped refusal) ≡ 3)) → statusOf (ended .how) ≡ 3
             → DueOfLog log 7 ⊎ (DueOfLog log 8 ⊎ DueOfLog log 9)
         go (inl p) e = let z = sym (p .1) ∙ sym status-is ∙ e in absurd (omega arith)
         go (inr p) e = by-number (λ z. p .0 (sym number-is ∙ z)) (log-listed log)
 
-        back : DueOfLog log 7 ⊎ (DueOfLog log 8 ⊎ DueOfLog log 9) → statusOf how ≡ 3
+        back : DueOfLog log 7 ⊎ (DueOfLog log 8 ⊎ DueOfLog log 9) → statusOf (ended .how) ≡ 3
         back (inl is) = rw (status-is, ← only 7 is)
         back (inr (inl is)) = rw (status-is, ← only 8 is)
         back (inr (inr is)) = rw (status-is, ← only 9 is)
 
-  either-way : (how : How) (whole : ℕ) → PumpedAs printed job how whole → Failed how ⊎ ((log : List ℕ) × Followed printed job how whole log)
-  either-way On whole p = inl (inr (inr refl))
-  either-way (Stopped refusal) whole p = inr (_, record { refusal = refusal; how-is = refl; stopped = p; rest = []; may = λ q. refl; log-is = refl })
-  either-way NotRead whole p = inl (inl refl)
-  either-way NotWritten whole p = inl (inr (inl refl))
+  either-way : (ended : Ended) (how : How) → ended .how ≡ how → PumpedAs how printed k job ended → Failed how ⊎ ((log : List ℕ) × Followed printed k job ended log)
+  either-way ended On e p = inl (inr (inr refl))
+  either-way ended (Stopped refusal) e p = inr (_, record { refusal = refusal; how-is = e; stopped = p; rest = []; may = λ q. refl; log-is = refl })
+  either-way ended NotRead e p = inl (inl refl)
+  either-way ended NotWritten e p = inl (inr (inl refl))
 
-  pub means : StatusMeans printed job
+  pub means : StatusMeans printed k job
   means = record {
-    each = either-way;
-    text = λ how whole log f. f .stopped .text (f .rest) (f .may) ∙ ap printed (sym (f .log-is));
+    each = λ ended. either-way ended (ended .how) refl;
+    text = λ ended log f. f .stopped .text (f .rest) (f .may) ∙ ap printed (sym (f .log-is));
     done = done-is;
     refused = refused-is;
     failed = failed-is;
@@ -155,13 +158,13 @@ module _ (printed : List ℕ → List ℕ) (job : Job) (off : worker .begun job 
   }
 
 -- ---- of the two programs
-pub replay-means : (pins : Bool) → StatusMeans (replay.printed pins) (toReplay pins)
+pub replay-means : (pins : Bool) → StatusMeans (replay.printed pins) task.Replay (toReplay pins)
 unfolding replay.start
-replay-means pins = means (replay.printed pins) (toReplay pins) refl
+replay-means pins = means (replay.printed pins) task.Replay (toReplay pins) refl
 
-pub answer-means : (asked : Asked) → StatusMeans (answer.printed asked) (toAnswer asked)
+pub answer-means : (asked : Asked) → StatusMeans (answer.printed asked) task.Answer (toAnswer asked)
 unfolding answer.start
-answer-means asked = means (answer.printed asked) (toAnswer asked) refl
+answer-means asked = means (answer.printed asked) task.Answer (toAnswer asked) refl
 
 -- ---- of a read, and of a program that was not used as it is meant to be
 pub read-means : ReadMeans

@@ -9,17 +9,19 @@ use Rattle.follow.specs.Whole.{joined}
 use Rattle.text.specs.Text.{decimal}
 use Rattle.outcomes.specs.Demand1.{DueOfLog}
 use Rattle.jobs.specs.declared.Job.{Job}
+use Rattle.jobs.specs.declared.Task.{Task}
 use Rattle.window.specs.Given.{gotOf}
 use Rattle.stream.specs.Pump.{MayFollow, allBlocks, StoppedLog, PumpedAs, statusOf}
+use Rattle.stream.specs.declared.Ended.{Ended}
 use Rattle.stream.specs.declared.How.{How}
 use Rattle.stream.specs.declared.How.the-variants.{On, Stopped, NotRead, NotWritten}
 use Rattle.ending.specs.Ending.{digitOf, misused}
 
 -- a pump followed a log to where it stops: the log begins with the parts that came, and is their sum where its end was seen
-pub record Followed (printed : List ℕ → List ℕ) (job : Job) (how : How) (whole : ℕ) (log : List ℕ) : Type 0 where
+pub record Followed (printed : List ℕ → List ℕ) (k : Task) (job : Job) (ended : Ended) (log : List ℕ) : Type 0 where
   pub refusal : ℕ
-  pub how-is : how ≡ Stopped refusal
-  pub stopped : StoppedLog printed job refusal whole
+  pub how-is : ended .how ≡ Stopped refusal
+  pub stopped : StoppedLog printed k job refusal ended
   pub rest : List ℕ
   pub may : MayFollow (stopped .last .done) rest
   pub log-is : log ≡ joined (stopped .last .parts) ++ rest
@@ -28,17 +30,17 @@ pub record Followed (printed : List ℕ → List ℕ) (job : Job) (how : How) (w
 abbrev pub Failed : How → Type 0
 Failed how = (how ≡ NotRead) ⊎ ((how ≡ NotWritten) ⊎ (how ≡ On))
 
--- of a program whose pump has this job and prints this
-pub record StatusMeans (printed : List ℕ → List ℕ) (job : Job) : Type 0 where
+-- of a program whose pump has this task, begins with this job and prints this
+pub record StatusMeans (printed : List ℕ → List ℕ) (k : Task) (job : Job) : Type 0 where
   -- every pump has failed, or followed a log
-  pub each : (how : How) (whole : ℕ) → PumpedAs printed job how whole → Failed how ⊎ ((log : List ℕ) × Followed printed job how whole log)
+  pub each : (ended : Ended) → PumpedAs (ended .how) printed k job ended → Failed (ended .how) ⊎ ((log : List ℕ) × Followed printed k job ended log)
   -- what it handed to its writes is, joined, what is printed of that log
-  pub text : (how : How) (whole : ℕ) (log : List ℕ) (f : Followed printed job how whole log) → joined (allBlocks (f .stopped .last)) ≡ printed log
+  pub text : (ended : Ended) (log : List ℕ) (f : Followed printed k job ended log) → joined (allBlocks (f .stopped .last)) ≡ printed log
   -- 0 exactly where 0 is due of the log: it ended at a record boundary, and nothing was refused
-  pub done : (how : How) (whole : ℕ) (log : List ℕ) → Followed printed job how whole log → (statusOf how ≡ 0) ↔ DueOfLog log 0
+  pub done : (ended : Ended) (log : List ℕ) → Followed printed k job ended log → (statusOf (ended .how) ≡ 0) ↔ DueOfLog log 0
   -- 3 exactly where 7, 8 or 9 is due of it
-  pub refused : (how : How) (whole : ℕ) (log : List ℕ) → Followed printed job how whole log
-      → (statusOf how ≡ 3) ↔ (DueOfLog log 7 ⊎ (DueOfLog log 8 ⊎ DueOfLog log 9))
+  pub refused : (ended : Ended) (log : List ℕ) → Followed printed k job ended log
+      → (statusOf (ended .how) ≡ 3) ↔ (DueOfLog log 7 ⊎ (DueOfLog log 8 ⊎ DueOfLog log 9))
   -- 1 exactly where the pump says that a call failed, or that the input was too long
   pub failed : (how : How) → (statusOf how ≡ 1) ↔ Failed how
   -- and what goes to descriptor 3 is its digit

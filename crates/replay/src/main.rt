@@ -10,7 +10,7 @@ use stream::Ended;
 
 // How the replay that was asked for came to its end.
 fn tell_replayed(wanted: PinsWanted, ended: Ended)
-    requires { ⌜ ReplayedAs wanted (ended .how) (ended .whole) ⌝ }
+    requires { ⌜ ReplayedAs wanted ended ⌝ }
 {
     ending::tell_end(b"replay", ended);
 }

@@ -19,6 +19,7 @@ use Rattle.follow.proofs.Stops.{run-stops}
 use Rattle.follow.proofs.Whole.{joined-append}
 use Rattle.jobs.specs.Job.{worker}
 use Rattle.jobs.specs.declared.Job.{Job}
+use Rattle.jobs.specs.declared.Task.{Task}
 use Rattle.jobs.proofs.Jobs.{works}
 use Rattle.window.specs.Window.{unused}
 use Rattle.window.specs.declared.Window.{Window}
@@ -57,28 +58,28 @@ none-counted (b ∷ bs) = none-counted bs
 
 -- what is said of a log, from a job that has come to its bytes: of a run that waits or is full, what its text counts for, and then what is
 -- said of the bytes that are left
-module _ (said : Job → List ℕ → List ℕ) (counted : List ℕ → List ℕ)
-    (full : (j : Job) (l rest : List ℕ) (last : Bool) (room : ℕ) → (last ≡ true → rest ≡ []) → let u = runOf worker j l last room in
+module _ (k : Task) (said : Job → List ℕ → List ℕ) (counted : List ℕ → List ℕ)
+    (full : (j : Job) (l rest : List ℕ) (last : Bool) (room : ℕ) → (last ≡ true → rest ≡ []) → let u = runOf (worker k) j l last room in
     u .next ≡ Full → said j (l ++ rest) ≡ counted (u .text) ++ said (u .state) (drop (u .at) l ++ rest))
-    (wait : (j : Job) (l rest : List ℕ) (last : Bool) (room : ℕ) → (last ≡ true → rest ≡ []) → let u = runOf worker j l last room in
+    (wait : (j : Job) (l rest : List ℕ) (last : Bool) (room : ℕ) → (last ≡ true → rest ≡ []) → let u = runOf (worker k) j l last room in
     u .next ≡ Wait → said j (l ++ rest) ≡ counted (u .text) ++ said (u .state) (drop (u .at) l ++ rest)) where
   module _ (s : State) (buffer : List ℕ) (room : ℕ) where
     -- what the next run sees
-    turn-said : {s′ : State} {buffer′ : List ℕ} (went : Went s buffer room s′ buffer′) (rest : List ℕ) → OpenTo s′ rest
+    turn-said : {s′ : State} {buffer′ : List ℕ} (went : Went k s buffer room s′ buffer′) (rest : List ℕ) → OpenTo s′ rest
         → (OpenTo s (joined (partIn went) ++ rest))
-        × (said (s .job) (unused (s .window) buffer ++ (joined (partIn went) ++ rest)) ≡ counted (ranOver s buffer room .text) ++ said (s′ .job) (unused (s′ .window) buffer′ ++ rest))
+        × (said (s .job) (unused (s .window) buffer ++ (joined (partIn went) ++ rest)) ≡ counted (ranOver k s buffer room .text) ++ said (s′ .job) (unused (s′ .window) buffer′ ++ rest))
     turn-said (emptied e is same) rest may =
         let may′ = rw is at may in
-        (may′, full (s .job) (unused (s .window) buffer) rest (s .window .last) room may′ e ∙ rw (is, same, unused-past (s .window) (ranOver s buffer room .at) buffer))
+        (may′, full (s .job) (unused (s .window) buffer) rest (s .window .last) room may′ e ∙ rw (is, same, unused-past (s .window) (ranOver k s buffer room .at) buffer))
     turn-said {s′} {buffer′} (refilled e r) rest may =
         let part = r .1 .part in
-        let off = waits records-sound worker works (s .job) (unused (s .window) buffer) (s .window .last) room e .0 in
+        let off = waits records-sound (worker k) (works k) (s .job) (unused (s .window) buffer) (s .window .last) room e .0 in
         let not-last : OpenTo s (joined (someOf part) ++ rest) = λ q. let f = sym q ∙ off in let z : _≡_ {A = ℕ} 0 1 = cc in absurd (omega arith) in
-        let job-is : s′ .job ≡ ranOver s buffer room .state = ap (λ (t : State). t .job) (r .0) in
-        let bytes-are : unused (s′ .window) buffer′ ≡ drop (ranOver s buffer room .at) (unused (s .window) buffer) ++ part = r .1 .bytes ∙ rw (unused-past (s .window) (ranOver s buffer room .at) buffer) in
+        let job-is : s′ .job ≡ ranOver k s buffer room .state = ap (λ (t : State). t .job) (r .0) in
+        let bytes-are : unused (s′ .window) buffer′ ≡ drop (ranOver k s buffer room .at) (unused (s .window) buffer) ++ part = r .1 .bytes ∙ rw (unused-past (s .window) (ranOver k s buffer room .at) buffer) in
         (not-last, wait (s .job) (unused (s .window) buffer) (joined (someOf part) ++ rest) (s .window .last) room not-last e ∙ rw (job-is, bytes-are, joined-some part, append-assoc))
 
-  turns-said : {job : Job} {n : ℕ} {parts blocks : List (List ℕ)} {s : State} {buffer : List ℕ} → TurnsDone job n parts blocks s buffer
+  turns-said : {job : Job} {n : ℕ} {parts blocks : List (List ℕ)} {s : State} {buffer : List ℕ} → TurnsDone k job n parts blocks s buffer
       → (rest : List ℕ) → OpenTo s rest → said job (joined parts ++ rest) ≡ countedIn counted blocks ++ said (s .job) (unused (s .window) buffer ++ rest)
   unfolding unused
   turns-said (none buffer) rest may = refl
@@ -87,23 +88,23 @@ module _ (said : Job → List ℕ → List ℕ) (counted : List ℕ → List ℕ
       ap (said job) (ap (λ (l : List ℕ). l ++ rest) (joined-append parts (partIn went)) ∙ append-assoc (joined parts) (joined (partIn went)) rest)
       ∙ turns-said done (joined (partIn went) ++ rest) (t .0)
       ∙ ap (λ (l : List ℕ). countedIn counted blocks ++ l) (t .1)
-      ∙ sym (one-block counted blocks (ranOver s buffer room .text) (said (s′ .job) (unused (s′ .window) buffer′ ++ rest)))
+      ∙ sym (one-block counted blocks (ranOver k s buffer room .text) (said (s′ .job) (unused (s′ .window) buffer′ ++ rest)))
 
 -- the state knows whether the end was seen
 none-long : (part : List ℕ) → isNone part ≡ eqb (length part) 0
 none-long [] = refl
 none-long (b ∷ bs) = sym (ne-eqb (length (b ∷ bs)) 0 (λ e. omega arith))
 
-end-marked : {job : Job} {n : ℕ} {parts blocks : List (List ℕ)} {s : State} {buffer : List ℕ} (done : TurnsDone job n parts blocks s buffer) → endSeen done ≡ s .window .last
+end-marked : {k : Task} {job : Job} {n : ℕ} {parts blocks : List (List ℕ)} {s : State} {buffer : List ℕ} (done : TurnsDone k job n parts blocks s buffer) → endSeen done ≡ s .window .last
 end-marked (none buffer) = refl
-end-marked (again {s = s} {s′ = s′} {buffer = buffer} {buffer′ = buffer′} room done went) = go (end-marked done) went
+end-marked {k} (again {s = s} {s′ = s′} {buffer = buffer} {buffer′ = buffer′} room done went) = go (end-marked done) went
   where
-    go : endSeen done ≡ s .window .last → (w : Went s buffer room s′ buffer′) → endIn (endSeen done) w ≡ s′ .window .last
+    go : endSeen done ≡ s .window .last → (w : Went k s buffer room s′ buffer′) → endIn (endSeen done) w ≡ s′ .window .last
     go e (emptied full is same) = e ∙ sym (ap (λ (t : State). t .window .last) is)
     go e (refilled waits r) = none-long (r .1 .part) ∙ sym (ap (λ (t : Window). t .last) (r .1 .window))
 
 -- ---- what is printed, and what stops it
-module _ {job : Job} {n : ℕ} {parts blocks : List (List ℕ)} {s : State} {buffer : List ℕ} (done : TurnsDone job n parts blocks s buffer)
+module _ {k : Task} {job : Job} {n : ℕ} {parts blocks : List (List ℕ)} {s : State} {buffer : List ℕ} (done : TurnsDone k job n parts blocks s buffer)
     (rest : List ℕ) (may′ : MayFollow done rest) where
   may : OpenTo s rest
   may q = may′ (end-marked done ∙ q)
@@ -112,43 +113,42 @@ module _ {job : Job} {n : ℕ} {parts blocks : List (List ℕ)} {s : State} {buf
   left = unused (s .window) buffer
 
   -- what was written before is the beginning of the text
-  pub written-before : printedFrom worker job (joined parts ++ rest) ≡ joined blocks ++ printedFrom worker (s .job) (left ++ rest)
+  pub written-before : printedFrom (worker k) job (joined parts ++ rest) ≡ joined blocks ++ printedFrom (worker k) (s .job) (left ++ rest)
   written-before =
-      turns-said (printedFrom worker) (λ b. b)
-      (λ j l rest last room may e. run-due records-sound worker works l rest last may j room e .0)
-      (λ j l rest last room may e. run-due records-sound worker works l rest last may j room e .0)
+      turns-said k (printedFrom (worker k)) (λ b. b)
+      (λ j l rest last room may e. run-due records-sound (worker k) (works k) l rest last may j room e .0)
+      (λ j l rest last room may e. run-due records-sound (worker k) (works k) l rest last may j room e .0)
       done rest may
-      ∙ ap (λ (l : List ℕ). l ++ printedFrom worker (s .job) (left ++ rest)) (all-counted blocks)
+      ∙ ap (λ (l : List ℕ). l ++ printedFrom (worker k) (s .job) (left ++ rest)) (all-counted blocks)
 
-  stopped-later : printedFrom (stopper worker) job (joined parts ++ rest) ≡ printedFrom (stopper worker) (s .job) (left ++ rest)
+  stopped-later : printedFrom (stopper (worker k)) job (joined parts ++ rest) ≡ printedFrom (stopper (worker k)) (s .job) (left ++ rest)
   stopped-later =
-      turns-said (printedFrom (stopper worker)) (λ b. [])
-      (λ j l rest last room may e. run-stops records-sound worker works l rest last may j room e)
-      (λ j l rest last room may e. run-stops records-sound worker works l rest last may j room e)
+      turns-said k (printedFrom (stopper (worker k))) (λ b. [])
+      (λ j l rest last room may e. run-stops records-sound (worker k) (works k) l rest last may j room e)
+      (λ j l rest last room may e. run-stops records-sound (worker k) (works k) l rest last may j room e)
       done rest may
-      ∙ ap (λ (l : List ℕ). l ++ printedFrom (stopper worker) (s .job) (left ++ rest)) (none-counted blocks)
+      ∙ ap (λ (l : List ℕ). l ++ printedFrom (stopper (worker k)) (s .job) (left ++ rest)) (none-counted blocks)
 
   module _ (room : ℕ) where
     abbrev text : List ℕ
-    text = ranOver s buffer room .text
+    text = ranOver k s buffer room .text
 
     with-last : joined (blocks ++ (text ∷ [])) ≡ joined blocks ++ text
     with-last = joined-append blocks (text ∷ []) ∙ ap (λ (l : List ℕ). joined blocks ++ l) (append-nil text)
 
     -- with the last block it is the whole of it, where the run stops
-    pub written-all : ranOver s buffer room .next ≡ Stop → joined (blocks ++ (text ∷ [])) ≡ printedFrom worker job (joined parts ++ rest)
-    written-all e = with-last ∙ ap (λ (l : List ℕ). joined blocks ++ l) (sym (run-due records-sound worker works left rest (s .window .last) may (s .job) room e)) ∙ sym written-before
+    pub written-all : ranOver k s buffer room .next ≡ Stop → joined (blocks ++ (text ∷ [])) ≡ printedFrom (worker k) job (joined parts ++ rest)
+    written-all e = with-last ∙ ap (λ (l : List ℕ). joined blocks ++ l) (sym (run-due records-sound (worker k) (works k) left rest (s .window .last) may (s .job) room e)) ∙ sym written-before
 
     -- and where it waits, a longer beginning
-    pub written-with : ranOver s buffer room .next ≡ Wait → (later : List ℕ) × (printedFrom worker job (joined parts ++ rest) ≡ joined (blocks ++ (text ∷ [])) ++ later)
-    written-with e = (
-      _,
-      written-before
-          ∙ ap (λ (l : List ℕ). joined blocks ++ l) (run-due records-sound worker works left rest (s .window .last) may (s .job) room e .0)
-          ∙ sym (append-assoc (joined blocks) text _)
-          ∙ ap (λ (l : List ℕ). l ++ printedFrom worker (ranOver s buffer room .state) (drop (ranOver s buffer room .at) left ++ rest)) (sym with-last),
-    )
+    pub written-with : ranOver k s buffer room .next ≡ Wait
+        → printedFrom (worker k) job (joined parts ++ rest) ≡ joined (blocks ++ (text ∷ [])) ++ printedFrom (worker k) (ranOver k s buffer room .state) (drop (ranOver k s buffer room .at) left ++ rest)
+    written-with e =
+        written-before
+        ∙ ap (λ (l : List ℕ). joined blocks ++ l) (run-due records-sound (worker k) (works k) left rest (s .window .last) may (s .job) room e .0)
+        ∙ sym (append-assoc (joined blocks) text _)
+        ∙ ap (λ (l : List ℕ). l ++ printedFrom (worker k) (ranOver k s buffer room .state) (drop (ranOver k s buffer room .at) left ++ rest)) (sym with-last)
 
     -- what stops the last run stops the log
-    pub stopped-by : ranOver s buffer room .next ≡ Stop → printedFrom (stopper worker) job (joined parts ++ rest) ≡ ranOver s buffer room .refusal ∷ []
-    stopped-by e = stopped-later ∙ run-stops records-sound worker works left rest (s .window .last) may (s .job) room e
+    pub stopped-by : ranOver k s buffer room .next ≡ Stop → printedFrom (stopper (worker k)) job (joined parts ++ rest) ≡ ranOver k s buffer room .refusal ∷ []
+    stopped-by e = stopped-later ∙ run-stops records-sound (worker k) (works k) left rest (s .window .last) may (s .job) room e

@@ -5,28 +5,30 @@ mod handed;
 ghost use mathlib.Core.Path.{_≡_};
 ghost use lib.ListN.{length};
 ghost use Rattle.follow.specs.Follow.{Running};
-ghost use Rattle.follow.specs.Whole.{printedFrom};
 ghost use Rattle.playback.specs.Replay.{printed as Replay·printed};
 ghost use Rattle.answers.specs.Answer.{printed as Answer·printed};
-ghost use Rattle.jobs.specs.Job.{worker, toReplay, toAnswer};
+ghost use Rattle.jobs.specs.Job.{taskOf, worker, printedBy, toReplay, toAnswer};
 ghost use Rattle.window.specs.Window.{Within};
-ghost use Rattle.stream.specs.Pump.{pumpStart, ranOver, afterRun, isOn, isWait, howAfter, MoreReadAs, BehindWrite, TurnedAs, PumpedAs, statusOf};
+ghost use Rattle.stream.specs.Pump.{pumpStart, ranOver, afterRun, isOn, isWait, howAfter, MoreReadAs, BehindWrite, TurnedAs, endedAt, PumpedAs, statusOf};
 use answers::Asked;
 use follow::Next;
 use handed::Delivered;
 use handed::write_run;
+use jobs::ANSWER;
 use jobs::Job;
+use jobs::REPLAY;
 use jobs::Ran;
+use jobs::Task;
 use jobs::run;
+use jobs::task_of;
 use window::Window;
 use window::refill;
 
-// The job; the window of the buffer, where the bytes of the input stand that are there and not used; and the last record of the text
-// that is written.
+// The job, as it is behind the text that is written; and the window of the buffer, where the bytes of the input stand that are there and
+// not used.
 struct State {
     job: Job,
     window: Window,
-    whole: u64,
 }
 
 // What a turn of the pump comes to: another turn; the end of the log, by the refusal with this number or, where it is 0, by none; or a
@@ -38,10 +40,11 @@ pub enum How {
     NotWritten,
 }
 
-// How a pump came to its end, and the last record of the last text that was written whole: 0, where there is none.
+// How a pump came to its end, at which task, and the job as it is there: behind the last text that was written whole.
 pub struct Ended {
     pub how: How,
-    pub whole: u64,
+    pub task: Task,
+    pub job: Job,
 }
 
 // That, and the state behind the turn.
@@ -57,19 +60,18 @@ fn begin(job: Job) -> State
     State {
         job,
         window: Window::start(),
-        whole: 0,
     }
 }
 
 // A run over all that came and is not used.
-fn run_over(answers: bool, state: State, buffer: &[u8], text: &mut [u8]) -> Ran
-    requires { ⌜ (answers ≡ state .job .answers) × Within (state .window) (length (now buffer)) ⌝ }
-    ensures { λ r. ⌜ Running worker (now (text .entry)) (ranOver state (now (buffer .entry)) (length (now (text .entry)))) (now (text .exit)) (r .next) (r .refusal) (r .job) (r .used) (r .to) ⌝ }
+fn run_over(task: u8, state: State, buffer: &[u8], text: &mut [u8]) -> Ran
+    requires { ⌜ Within (state .window) (length (now buffer)) ⌝ }
+    ensures { λ r. ⌜ Running (worker (taskOf task)) (now (text .entry)) (ranOver (taskOf task) state (now (buffer .entry)) (length (now (text .entry)))) (now (text .exit)) (r .next) (r .refusal) (r .job) (r .used) (r .to) ⌝ }
 {
     let window = state.window;
     let from = window.from;
     let to = window.to;
-    run(answers, state.job, &buffer[from..to], window.last, text)
+    run(task, state.job, &buffer[from..to], window.last, text)
 }
 
 // The state behind a run whose text is written.
@@ -78,11 +80,9 @@ fn after_run(state: State, ran: Ran) -> State
 {
     let job = ran.job;
     let window = state.window;
-    let whole = job.records();
     State {
         job,
         window: window.past(ran.used),
-        whole,
     }
 }
 
@@ -93,11 +93,7 @@ fn read_more(input: i32, state: State, buffer: &mut [u8]) -> Turned
     let more = refill(input, state.window, buffer);
     let job = state.job;
     let window = more.window;
-    let state = State {
-        job,
-        window,
-        whole: state.whole,
-    };
+    let state = State { job, window };
     if more.failed {
         return Turned {
             how: How::NotRead,
@@ -165,18 +161,18 @@ fn after_write(
 fn turn(
     input: i32,
     output: i32,
-    answers: bool,
+    task: u8,
     state: State,
     buffer: &mut [u8],
     text: &mut [u8],
 ) -> Turned
-    requires { ⌜ (answers ≡ state .job .answers) × Within (state .window) (length (now buffer)) × (65536 ≡ length (now buffer)) ⌝ }
-    ensures { λ r. ⌜ TurnedAs (r .how) state (now (buffer .entry)) (length (now (text .entry))) (r .state) (now (buffer .exit)) ⌝ }
+    requires { ⌜ Within (state .window) (length (now buffer)) × (65536 ≡ length (now buffer)) ⌝ }
+    ensures { λ r. ⌜ TurnedAs (taskOf task) (r .how) state (now (buffer .entry)) (length (now (text .entry))) (r .state) (now (buffer .exit)) ⌝ }
 {
     let room = text.len();
-    let ran = run_over(answers, state, &*buffer, &mut *text);
+    let ran = run_over(task, state, &*buffer, &mut *text);
     let to = ran.to;
-    let delivered = write_run(output, state, &*buffer, room, &text[..to]);
+    let delivered = write_run(output, task, state, &*buffer, room, &text[..to]);
     after_write(delivered, input, state, ran, buffer)
 }
 
@@ -191,45 +187,50 @@ fn goes_on(how: How) -> bool
     }
 }
 
-// What a job prints of the log at one descriptor, written to another. answers says of which kind the job is (jobs::run says why).
-fn pump(input: i32, output: i32, answers: bool, job: Job) -> Ended
-    requires { ⌜ answers ≡ job .answers ⌝ }
-    ensures { λ r. ⌜ PumpedAs (printedFrom worker job) job (r .how) (r .whole) ⌝ }
+// The end of a pump behind a turn.
+fn ended_at(task: u8, how: How, state: State) -> Ended
+    ensures { λ r. ⌜ r ≡ endedAt (taskOf task) how state ⌝ }
+{
+    let job = state.job;
+    Ended {
+        how,
+        task: task_of(task),
+        job,
+    }
+}
+
+// What a job prints of the log at one descriptor, at its task, written to another (jobs::run says why the task goes beside the job).
+fn pump(input: i32, output: i32, task: u8, job: Job) -> Ended
+    ensures { λ r. ⌜ PumpedAs (r .how) (printedBy (taskOf task) job) (taskOf task) job r ⌝ }
 {
     let mut buffer = io::large_buffer();
     let mut text = io::large_buffer();
     let mut state = begin(job);
     let mut turns = u64::MAX;
     while 0 < turns {
-        let turned = turn(input, output, answers, state, &mut buffer, &mut text);
+        let turned = turn(input, output, task, state, &mut buffer, &mut text);
         state = turned.state;
         let how = turned.how;
         if !goes_on(how) {
-            return Ended {
-                how,
-                whole: state.whole,
-            };
+            return ended_at(task, how, state);
         }
         turns -= 1;
     }
-    Ended {
-        how: How::On,
-        whole: state.whole,
-    }
+    ended_at(task, How::On, state)
 }
 
 // The replay of the log at one descriptor, written to another. pins says whether the pins stand behind every record's line.
 pub fn pump_replay(input: i32, output: i32, pins: bool) -> Ended
-    ensures { λ r. ⌜ PumpedAs (Replay·printed pins) (toReplay pins) (r .how) (r .whole) ⌝ }
+    ensures { λ r. ⌜ PumpedAs (r .how) (Replay·printed pins) Task.Replay (toReplay pins) r ⌝ }
 {
-    pump(input, output, false, Job::to_replay(pins))
+    pump(input, output, REPLAY, Job::to_replay(pins))
 }
 
 // The answer to what is asked of the log at one descriptor, written to another.
 pub fn pump_answer(input: i32, output: i32, asked: Asked) -> Ended
-    ensures { λ r. ⌜ PumpedAs (Answer·printed asked) (toAnswer asked) (r .how) (r .whole) ⌝ }
+    ensures { λ r. ⌜ PumpedAs (r .how) (Answer·printed asked) Task.Answer (toAnswer asked) r ⌝ }
 {
-    pump(input, output, true, Job::to_answer(asked))
+    pump(input, output, ANSWER, Job::to_answer(asked))
 }
 
 // The status of a program that came to its end so: 0 done, 1 input or output failed, 3 a log that was refused.

@@ -1,4 +1,5 @@
 use borrow.Author.Needs.{needs}
+use borrow.Author.Tests.{ne-eqb}
 use Rattle.jobs.proofs.run.Statement.{statement}
 use Rattle.jobs.proofs.run.Tie as tie
 
@@ -9,6 +10,6 @@ run-spec =
     (λ c κs. tt)
     (λ c κs. tt)
     (λ c. search needs)
-    (λ c. let r = c .before .before in rw (r .before .before .if1 .taken) (r .run-answer .ensures))
+    (λ c. let r = c .before .before in rw (r .before .before .match .keys1) (r .run-replay .ensures))
     (λ c. search needs)
-    (λ c. let r = c .before .before in rw (r .before .before .if1 .left) (r .run-replay .ensures)))
+    (λ c. let r = c .before .before in rw (ne-eqb _ 0 (r .before .before .match .rest .1)) (r .run-answer .ensures)))

@@ -1,5 +1,6 @@
 use borrow.Author.Needs.{needs}
-use Rattle.jobs.proofs.Jobs.{replay-runs}
+use Rattle.jobs.specs.declared.Task.the-variants as task
+use Rattle.jobs.proofs.Jobs.{runs}
 use Rattle.jobs.proofs.run_replay.Statement.{statement}
 use Rattle.jobs.proofs.run_replay.Tie as tie
 
@@ -11,4 +12,4 @@ run-replay-spec =
     (λ c. search needs)
     (λ c.
     let r = c .before .before .before in
-    replay-runs (r .before .before .before .before .before .before .args .job) _ _ _ (r .run .ensures)))
+    runs task.Replay (r .before .before .before .before .before .before .args .job) _ _ _ (r .run .ensures)))

@@ -1,6 +1,5 @@
 use borrow.Author.Needs.{needs}
 use denote.Ref.{now}
-use Rattle.jobs.proofs.Jobs.{in-kind}
 use Rattle.window.proofs.Places.{unused-part}
 use Rattle.stream.proofs.run_over.Statement.{statement}
 use Rattle.stream.proofs.run_over.Tie as tie
@@ -9,7 +8,7 @@ returns : tie.Need-returns
 returns c =
     let start = c .before .before .before .before .before .before .before .before in
     let s = start .args .state in
-    rw (unused-part (s .window) (now (start .args .buffer)) (start .pre .1), in-kind (start .args .answers) (s .job) (start .pre .0)) at (c .before .before .run .ensures)
+    rw (unused-part (s .window) (now (start .args .buffer)) (start .pre)) at (c .before .before .run .ensures)
 
 pub run-over-spec : {M : Type 1} → statement M
 run-over-spec =
