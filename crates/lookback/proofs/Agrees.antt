@@ -14,8 +14,8 @@ use Rattle.alarm.proofs.Course.{clocked-idle, clocked-stands, clocked-reached}
 use Rattle.events.specs.Event.{Event, clock}
 use Rattle.paper.specs.Stored.{startsAnew}
 use Rattle.paper.specs.Samples.{microsecondsAt}
-use Rattle.lookback.specs.Sight.{Sight, point, passed}
-use Rattle.lookback.specs.Watch.{Mark, Watch, Going, goingBy, restarts, pointAt}
+use Rattle.lookback.specs.Sight.{point, passed}
+use Rattle.lookback.specs.Watch.{Mark, Watch, Sights, Going, goingBy, restarts, pointAt}
 use Rattle.lookback.specs.Seen.{isSetBy, sinceBy, seen, isSet, clockSince, expires, setsAt, markOf, marked}
 use Rattle.lookback.proofs.Seen.{Lawful, Next, anew, rest, more, one, none, isClock, kept, expiry-when, expiry-not, below, next, marked-next}
 use Rattle.lookback.proofs.Parts.{Part, held, held-first, held-clock, held-anew, held-restarted, held-idle, held-judged}
@@ -25,14 +25,14 @@ alarmBy status m left = record { status = status; mark = pick status (m .axis) 0
 
 module _ (w : Watch) (l : Lawful w) (part : Part w) where
   -- as looking back tells
-  abbrev toldBy : Going (w .Setting) → List (Sight (w .Point)) → Mark → Detector (part .course .Run)
+  abbrev toldBy : Going (w .Setting) → Sights w → Mark → Detector (part .course .Run)
   toldBy g ss m = record { run = part .runOf g ss; alarm = alarmBy (isSetBy w g ss) m (g .time - sinceBy w g ss) }
 
   abbrev pub told : List Event → Detector (part .course .Run)
   told es = toldBy (goingBy w es) (seen w es) (marked w es)
 
   module _ (es : List Event) (e : Event) (h : held w part es ≡ told es) where
-    told-next : restarts w es e ≡ false → (ss : List (Sight (w .Point))) → seen w (e ∷ es) ≡ ss
+    told-next : restarts w es e ≡ false → (ss : Sights w) → seen w (e ∷ es) ≡ ss
         → told (e ∷ es) ≡ toldBy (goingBy w es) ss (pick (both (not (isSet w es)) (isSetBy w (goingBy w es) ss)) (markOf w (pointAt w es e)) (marked w es))
     told-next r ss s = rw (marked-next w l es e r ss s, kept w l es e r, s)
 

@@ -8,8 +8,8 @@ use mathlib.Core.Path.{_≡_, refl, sym, ap, _∙_}
 use native.Mathlib.Omega.{arith}
 use lib.ListN.{length, take, drop, length-append, take-append-drop}
 use Rattle.laws.proofs.Finite.{left, right}
-use Rattle.lookback.specs.Sight.{Sight, point, passed, pointsIn}
-use Rattle.lookback.specs.Watch.{Watch, Going}
+use Rattle.lookback.specs.Sight.{point, passed, pointsIn}
+use Rattle.lookback.specs.Watch.{Watch, Sights, Going}
 use Rattle.lookback.specs.Seen.{isSetBy}
 use Rattle.lookback.specs.Came.{NoneClears, CameSet}
 use Rattle.lookback.specs.Marks.{SetAt}
@@ -82,8 +82,8 @@ module _ {P : Type 0} (so : P → Bool) where
 
 -- ---- the detector
 module _ (w : Watch) (g : Going (w .Setting)) (isOver : w .Point → Bool) (n : ℕ) (some : 1 ≤ n)
-    (sets-is : (ss : List (Sight (w .Point))) → w .sets (g .own) ss ≡ lastAre isOver n (pointsIn ss))
-    (clears-is : (ss : List (Sight (w .Point))) → w .clears (g .own) ss ≡ lastAre (λ p. not (isOver p)) n (pointsIn ss)) where
+    (sets-is : (ss : Sights w) → w .sets (g .own) ss ≡ lastAre isOver n (pointsIn ss))
+    (clears-is : (ss : Sights w) → w .clears (g .own) ss ≡ lastAre (λ p. not (isOver p)) n (pointsIn ss)) where
   abbrev isCalm : w .Point → Bool
   isCalm p = not (isOver p)
 
@@ -94,13 +94,13 @@ module _ (w : Watch) (g : Going (w .Setting)) (isOver : w .Point → Bool) (n : 
   calm-within (suc m) (q ∷ ps) p qs o h =
       rw (left (isCalm q) (lastAre isCalm m (ps ++ (p ∷ qs))) h) (calm-within m ps p qs o (right (isCalm q) (lastAre isCalm m (ps ++ (p ∷ qs))) h))
 
-  points-joined : (later ss : List (Sight (w .Point))) → pointsIn (later ++ ss) ≡ pointsIn later ++ pointsIn ss
+  points-joined : (later ss : Sights w) → pointsIn (later ++ ss) ≡ pointsIn later ++ pointsIn ss
   points-joined [] ss = refl
   points-joined (point p ∷ later) ss = ap {B = List (w .Point)} (λ qs. p ∷ qs) (points-joined later ss)
   points-joined (passed us ∷ later) ss = points-joined later ss
 
   -- where no later point clears, no N calm points in a row came later
-  none-calm : (ss later : List (Sight (w .Point))) → NoneClears w g ss later → ¬ InRow isCalm n (pointsIn later)
+  none-calm : (ss later : Sights w) → NoneClears w g ss later → ¬ InRow isCalm n (pointsIn later)
   none-calm ss [] c = none-in-none isCalm n some
   none-calm ss (point p ∷ later) c = front-or-within isCalm n p (pointsIn later) (not-front (lastAre isCalm n (p ∷ pointsIn later)) refl) (none-calm ss later (c .1))
     where
@@ -113,7 +113,7 @@ module _ (w : Watch) (g : Going (w .Setting)) (isOver : w .Point → Bool) (n : 
 
   -- what is said of the points holds of what was seen
   module _ (p : w .Point) (earlier : List (w .Point)) (row : lastAre isOver n (p ∷ earlier) ≡ true) where
-    came-of : (ss : List (Sight (w .Point))) (later : List (w .Point)) → pointsIn ss ≡ later ++ (p ∷ earlier) → (g .nonLatched ≡ true → ¬ InRow isCalm n later)
+    came-of : (ss : Sights w) (later : List (w .Point)) → pointsIn ss ≡ later ++ (p ∷ earlier) → (g .nonLatched ≡ true → ¬ InRow isCalm n later)
         → (c : CameSet w g ss) × (c .setter ≡ p) × (pointsIn (c .earlier) ≡ earlier)
     came-of [] later e c = let l : 0 ≡ length later + suc (length earlier) = simp length-append at (ap length e) in absurd (omega arith)
     came-of (passed us ∷ ss) later e u = let c = came-of ss later e u in (further w g (passed us) ss (c .0) (c .0 .since), c .1, c .2)
@@ -132,7 +132,7 @@ module _ (w : Watch) (g : Going (w .Setting)) (isOver : w .Point → Bool) (n : 
             absurd (none u (at-front isCalm n (l ∷ later) (calm-within n (l ∷ later) p earlier (first-so isOver n p earlier some row) (rw (i, j) at f))))
         not-calm i j u false f = refl
 
-  module _ (ss : List (Sight (w .Point))) where
+  module _ (ss : Sights w) where
     came-in-row : CameSet w g ss → CameInRow isOver n (g .nonLatched) (pointsIn ss)
     came-in-row c = record {
       came = record {
@@ -157,7 +157,7 @@ module _ (w : Watch) (g : Going (w .Setting)) (isOver : w .Point → Bool) (n : 
     set-when = ((λ h. came-in-row (sights.set-when w g ss .0 h)), (λ r. sights.set-when w g ss .1 (in-row-came r)))
 
   -- and so is the point that set it
-  module _ (ss : List (Sight (w .Point))) where
+  module _ (ss : Sights w) where
     pub setter-in-row : SetAt w g ss → SetInRow isOver n (g .nonLatched) (pointsIn ss)
     setter-in-row a = record {
       later = pointsIn (a .came .later);
@@ -174,12 +174,12 @@ module _ (w : Watch) (g : Going (w .Setting)) (isOver : w .Point → Bool) (n : 
         let c = came-of (s .point) (s .earlier) (s .row) ss (s .later) (s .split) (s .since) in
         (record { came = c .0; before = new (c .0 .earlier) (c .2) (isSetBy w g (c .0 .earlier)) refl }, c .1)
       where
-        new : (earlier : List (Sight (w .Point))) → pointsIn earlier ≡ s .earlier → (t : Bool) → isSetBy w g earlier ≡ t → t ≡ false
+        new : (earlier : Sights w) → pointsIn earlier ≡ s .earlier → (t : Bool) → isSetBy w g earlier ≡ t → t ≡ false
         new earlier i true e = absurd (s .before (rw i at (came-in-row earlier (sights.set-when w g earlier .0 e))))
         new earlier i false e = refl
 
   -- N calm points in a row do not end with an over one
-  pub apart : (p : w .Point) (ss : List (Sight (w .Point))) → w .clears (g .own) (point p ∷ ss) ≡ true → w .sets (g .own) (point p ∷ ss) ≡ false
+  pub apart : (p : w .Point) (ss : Sights w) → w .clears (g .own) (point p ∷ ss) ≡ true → w .sets (g .own) (point p ∷ ss) ≡ false
   apart p ss h = sets-is (point p ∷ ss) ∙ go (lastAre isOver n (p ∷ pointsIn ss)) refl
     where
       calm : not (isOver p) ≡ true

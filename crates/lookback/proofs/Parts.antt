@@ -26,13 +26,13 @@ use Rattle.paper.specs.Stored.{startsAnew, isAccepted}
 use Rattle.paper.specs.Samples.{Values, allInside}
 use Rattle.paper.proofs.Samples.{sample-is}
 use Rattle.lookback.specs.InForce.{beginsAnew}
-use Rattle.lookback.specs.Sight.{Sight, point, passed}
-use Rattle.lookback.specs.Watch.{Watch, Going, goingBy, restarts, pointAt}
+use Rattle.lookback.specs.Sight.{point, passed}
+use Rattle.lookback.specs.Watch.{Watch, Sights, Going, goingBy, restarts, pointAt}
 use Rattle.lookback.proofs.InForce.{not-anew}
 use Rattle.lookback.proofs.Seen.{isClock}
 
 -- the alarm after a point p, behind the sights ss
-abbrev pub judgedBy : (w : Watch) → Going (w .Setting) → w .Point → List (Sight (w .Point)) → Alarm → Alarm
+abbrev pub judgedBy : (w : Watch) → Going (w .Setting) → w .Point → Sights w → Alarm → Alarm
 judgedBy w g p ss a =
     pick (w .sets (g .own) (point p ∷ ss)) (raised (w .mark p .axis) (w .mark p .negative) (g .time) a)
     (pick (both (g .nonLatched) (w .clears (g .own) (point p ∷ ss))) (cleared a) a)
@@ -41,9 +41,9 @@ pub record Part (w : Watch) : Type 1 where
   -- the part, and its run after these sights
   pub course : Course
   pub get : Detectors → Detector (course .Run)
-  pub runOf : Going (w .Setting) → List (Sight (w .Point)) → course .Run
+  pub runOf : Going (w .Setting) → Sights w → course .Run
   pub begins : (g : Going (w .Setting)) → runOf g [] ≡ course .begun
-  pub passes : (g : Going (w .Setting)) (us : ℕ) (ss : List (Sight (w .Point))) → runOf g (passed us ∷ ss) ≡ course .later us (runOf g ss)
+  pub passes : (g : Going (w .Setting)) (us : ℕ) (ss : Sights w) → runOf g (passed us ∷ ss) ≡ course .later us (runOf g ss)
   -- power-up
   pub quiet : get allQuiet ≡ fresh course
   -- a write
@@ -54,7 +54,7 @@ pub record Part (w : Watch) : Type 1 where
   pub clocks : (us : ℕ) (s : Detectors) → get (detectorsClocked us s) ≡ clocked course us (get s)
   -- an accepted sample that gives no point, and one that gives a point
   pub idle : (es : List Event) (v : Values) → w .pointOf es v ≡ [] → get (detectorsSampled (bank es) (v .x) (v .y) (v .z) (after es .detectors)) ≡ get (after es .detectors)
-  pub judges : (es : List Event) (v : Values) (p : w .Point) → w .pointOf es v ≡ p ∷ [] → (ss : List (Sight (w .Point))) → get (after es .detectors) .run ≡ runOf (goingBy w es) ss
+  pub judges : (es : List Event) (v : Values) (p : w .Point) → w .pointOf es v ≡ p ∷ [] → (ss : Sights w) → get (after es .detectors) .run ≡ runOf (goingBy w es) ss
       → get (detectorsSampled (bank es) (v .x) (v .y) (v .z) (after es .detectors))
       ≡ record { run = runOf (goingBy w es) (point p ∷ ss); alarm = judgedBy w (goingBy w es) p ss (get (after es .detectors) .alarm) }
 
@@ -119,7 +119,7 @@ module _ (w : Watch) (part : Part w) where
   held-idle es cycle c r q = steps es cycle
   held-idle es (clock us) c r q = cc
 
-  pub held-judged : (es : List Event) (e : Event) (p : w .Point) → pointAt w es e ≡ p ∷ [] → (ss : List (Sight (w .Point))) → held es .run ≡ part .runOf (goingBy w es) ss
+  pub held-judged : (es : List Event) (e : Event) (p : w .Point) → pointAt w es e ≡ p ∷ [] → (ss : Sights w) → held es .run ≡ part .runOf (goingBy w es) ss
       → held (e ∷ es) ≡ record { run = part .runOf (goingBy w es) (point p ∷ ss); alarm = judgedBy w (goingBy w es) p ss (held es .alarm) }
   unfolding pointAt
   held-judged es powerUp p q ss h = cc

@@ -13,8 +13,8 @@ use Rattle.laws.proofs.Finite.{left, right}
 use Rattle.events.specs.Event.{Event, powerUp, write, read, sample, cycle, clock}
 use Rattle.events.specs.Views.{atClock}
 use Rattle.paper.specs.Samples.{Values, brings, microsecondsAt}
-use Rattle.lookback.specs.Sight.{Sight, point, passed}
-use Rattle.lookback.specs.Watch.{Watch, goingBy, restarts, pointAmong, pointAt}
+use Rattle.lookback.specs.Sight.{point, passed}
+use Rattle.lookback.specs.Watch.{Watch, Sights, goingBy, restarts, pointAmong, pointAt}
 use Rattle.lookback.specs.Seen.{isSetBy, sinceBy, sightsAt, seen, isSet, clockSince, expires, setsAt, markOf, marked}
 use Rattle.lookback.proofs.InForce.{in-force-kept, not-anew}
 
@@ -32,7 +32,7 @@ pub record Lawful (w : Watch) : Type 0 where
   pub latches : isIn (w .clearing) 0x21 ≡ true
   pub kept : (es : List Event) (e : Event) → restarts w es e ≡ false → w .setting (e ∷ es) ≡ w .setting es
   -- no point both clears and sets
-  pub apart : (es : List Event) (p : w .Point) (ss : List (Sight (w .Point))) → w .clears (w .setting es) (point p ∷ ss) ≡ true → w .sets (w .setting es) (point p ∷ ss) ≡ false
+  pub apart : (es : List Event) (p : w .Point) (ss : Sights w) → w .clears (w .setting es) (point p ∷ ss) ≡ true → w .sets (w .setting es) (point p ∷ ss) ≡ false
 
 -- an event is a clock, or no clock sees it
 pub data Kind (e : Event) : Type 1 where
@@ -126,9 +126,9 @@ module _ (w : Watch) (l : Lawful w) where
         go : Kind e → (r : Bool) → restarts w es e ≡ r → (x : Bool) → expires w es e ≡ x → Next w es e
         go k true r x f = anew r (seen-restarted w l es e r)
         go (ticks us is) false r true f = rest us is r f (seen-expired w l es e us is r f)
-        go (ticks us is) false r false f = more us is r f (seen-kept w l es e r f ∙ ap (λ (s : List (Sight (w .Point))). s ++ seen w es) (ap (sightsAt w es) is))
+        go (ticks us is) false r false f = more us is r f (seen-kept w l es e r f ∙ ap (λ (s : Sights w). s ++ seen w es) (ap (sightsAt w es) is))
         go (still s) false r x f =
-            sees (s Bool false (λ us. true)) (s ℕ 0 (λ us. us)) (s (List (Sight (w .Point))) (map point (pointAt w es e)) (λ us. passed us ∷ [])) r (pointAt w es e) (one-at w l es e) refl
+            sees (s Bool false (λ us. true)) (s ℕ 0 (λ us. us)) (s (Sights w) (map point (pointAt w es e)) (λ us. passed us ∷ [])) r (pointAt w es e) (one-at w l es e) refl
 
     below-next : Next w es e → Below (e ∷ es)
     unfolding isSetBy sinceBy
@@ -175,7 +175,7 @@ module _ (w : Watch) (l : Lawful w) (es : List Event) (e : Event) where
       go (none c n r f s) = stays (still-lasts w l es e n)
 
   -- what is marked next, where ss are the sights
-  pub marked-next : restarts w es e ≡ false → (ss : List (Sight (w .Point))) → seen w (e ∷ es) ≡ ss
+  pub marked-next : restarts w es e ≡ false → (ss : Sights w) → seen w (e ∷ es) ≡ ss
       → marked w (e ∷ es) ≡ pick (both (not (isSet w es)) (isSetBy w (goingBy w es) ss)) (markOf w (pointAt w es e)) (marked w es)
   unfolding marked setsAt
   marked-next r ss s = rw (not-anew (w .clearing) es e r, kept w l es e r, s)

@@ -6,8 +6,8 @@ use mathlib.Core.Path.{_≡_, refl, sym, ap, _∙_}
 use native.Mathlib.Omega.{arith}
 use Rattle.laws.specs.Choice.{pick, both}
 use Rattle.events.specs.Event.{Event}
-use Rattle.lookback.specs.Sight.{Sight, point, passed}
-use Rattle.lookback.specs.Watch.{Mark, noMark, Watch, Going, goingBy, restarts, pointAt}
+use Rattle.lookback.specs.Sight.{point, passed}
+use Rattle.lookback.specs.Watch.{Mark, noMark, Watch, Sights, Going, goingBy, restarts, pointAt}
 use Rattle.lookback.specs.Seen.{isSetBy, seen, isSet, markOf, marked}
 use Rattle.lookback.specs.Came.{NoneClears}
 use Rattle.lookback.specs.Marks.{markShown, signShown, SetAt, Setter}
@@ -17,14 +17,14 @@ use Rattle.lookback.proofs.Came.{further, here, on, came-set}
 -- ---- among sights
 module _ (w : Watch) (g : Going (w .Setting)) where
   -- what was marked at the last point at which the status was set
-  abbrev setMark : List (Sight (w .Point)) → Mark
+  abbrev setMark : Sights w → Mark
   setMark [] = noMark
   setMark (point p ∷ ss) = pick (both (not (isSetBy w g ss)) (isSetBy w g (point p ∷ ss))) (w .mark p) (setMark ss)
   setMark (passed us ∷ ss) = setMark ss
 
   -- there is one
-  module _ (apart : (p : w .Point) (ss : List (Sight (w .Point))) → w .clears (g .own) (point p ∷ ss) ≡ true → w .sets (g .own) (point p ∷ ss) ≡ false) where
-    found : (ss : List (Sight (w .Point))) → isSetBy w g ss ≡ true → SetAt w g ss
+  module _ (apart : (p : w .Point) (ss : Sights w) → w .clears (g .own) (point p ∷ ss) ≡ true → w .sets (g .own) (point p ∷ ss) ≡ false) where
+    found : (ss : Sights w) → isSetBy w g ss ≡ true → SetAt w g ss
     unfolding isSetBy
     found [] h = let z : _≡_ {A = ℕ} 0 1 = cc in absurd (omega arith)
     found (point p ∷ ss) h = go (found ss) (isSetBy w g ss) refl
@@ -50,13 +50,13 @@ module _ (w : Watch) (g : Going (w .Setting)) where
     found (passed us ∷ ss) h = let a = found ss h in record { came = further w g (passed us) ss (a .came) (a .came .since); before = a .before }
 
   -- and no other
-  module _ (p : w .Point) (earlier : List (Sight (w .Point))) (sets : w .sets (g .own) (point p ∷ earlier) ≡ true) (new : isSetBy w g earlier ≡ false) where
-    only : (later : List (Sight (w .Point))) → (g .nonLatched ≡ true → NoneClears w g (point p ∷ earlier) later) → setMark (later ++ (point p ∷ earlier)) ≡ w .mark p
+  module _ (p : w .Point) (earlier : Sights w) (sets : w .sets (g .own) (point p ∷ earlier) ≡ true) (new : isSetBy w g earlier ≡ false) where
+    only : (later : Sights w) → (g .nonLatched ≡ true → NoneClears w g (point p ∷ earlier) later) → setMark (later ++ (point p ∷ earlier)) ≡ w .mark p
     only [] n = rw (new, came-set w g p earlier sets [] n)
     only (point q ∷ later) n = let t : g .nonLatched ≡ true → NoneClears w g (point p ∷ earlier) later = λ u. n u .1 in rw (came-set w g p earlier sets later t) (only later t)
     only (passed us ∷ later) n = only later n
 
-  set-only : (ss : List (Sight (w .Point))) (a : SetAt w g ss) → (isSetBy w g ss ≡ true) × (setMark ss ≡ w .mark (a .came .setter))
+  set-only : (ss : Sights w) (a : SetAt w g ss) → (isSetBy w g ss ≡ true) × (setMark ss ≡ w .mark (a .came .setter))
   set-only ss a =
       let c = a .came in
       rw (c .split) (came-set w g (c .setter) (c .earlier) (c .sets) (c .later) (c .since), only (c .setter) (c .earlier) (c .sets) (a .before) (c .later) (c .since))
@@ -71,7 +71,7 @@ module _ (w : Watch) (l : Lawful w) where
     unset n = λ h. let z : _≡_ {A = ℕ} 0 1 = cc in absurd (omega arith)
 
     -- nothing is seen, or time that passes
-    quiet : restarts w es e ≡ false → (ss : List (Sight (w .Point))) → seen w (e ∷ es) ≡ ss → isSetBy w (goingBy w es) ss ≡ isSet w es
+    quiet : restarts w es e ≡ false → (ss : Sights w) → seen w (e ∷ es) ≡ ss → isSetBy w (goingBy w es) ss ≡ isSet w es
         → setMark w (goingBy w es) ss ≡ setMark w (goingBy w es) (seen w es) → Marked (e ∷ es)
     quiet r ss s a b = rw (marked-next w l es e r ss s, kept w l es e r, s, a, b) (go (isSet w es) refl)
       where

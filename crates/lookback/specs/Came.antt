@@ -4,21 +4,21 @@ use mathlib.Core.Bool.{true, false}
 use mathlib.Core.List.{List, [], _∷_, _++_}
 use mathlib.Core.Path.{_≡_}
 use Rattle.events.specs.Event.{Event}
-use Rattle.lookback.specs.Sight.{Sight, point, passed}
-use Rattle.lookback.specs.Watch.{Watch, Going, goingBy}
+use Rattle.lookback.specs.Sight.{point, passed}
+use Rattle.lookback.specs.Watch.{Watch, Sights, Going, goingBy}
 use Rattle.lookback.specs.Seen.{seen}
 
 module _ (w : Watch) (g : Going (w .Setting)) where
   -- none of the later points, which come behind these sights, clears it
-  abbrev pub NoneClears : List (Sight (w .Point)) → List (Sight (w .Point)) → Type 0
+  abbrev pub NoneClears : Sights w → Sights w → Type 0
   NoneClears ss [] = Unit {0}
   NoneClears ss (point p ∷ later) = (w .clears (g .own) (point p ∷ (later ++ ss)) ≡ false) × NoneClears ss later
   NoneClears ss (passed us ∷ later) = NoneClears ss later
 
-  pub record CameSet (ss : List (Sight (w .Point))) : Type 0 where
-    pub later : List (Sight (w .Point))
+  pub record CameSet (ss : Sights w) : Type 0 where
+    pub later : Sights w
     pub setter : w .Point
-    pub earlier : List (Sight (w .Point))
+    pub earlier : Sights w
     pub split : ss ≡ later ++ (point setter ∷ earlier)
     pub sets : w .sets (g .own) (point setter ∷ earlier) ≡ true
     pub since : g .nonLatched ≡ true → NoneClears (point setter ∷ earlier) later

@@ -5,8 +5,7 @@ use mathlib.Core.List.{List}
 use mathlib.Core.Path.{_≡_}
 use Rattle.laws.specs.Choice.{pick}
 use Rattle.events.specs.Event.{Event}
-use Rattle.lookback.specs.Sight.{Sight}
-use Rattle.lookback.specs.Watch.{Watch, Going, goingBy}
+use Rattle.lookback.specs.Watch.{Watch, Sights, Going, goingBy}
 use Rattle.lookback.specs.Seen.{isSetBy, seen, isSet, marked}
 use Rattle.lookback.specs.Came.{CameSet}
 
@@ -18,7 +17,7 @@ abbrev pub signShown : Watch → List Event → Bool
 signShown w es = marked w es .negative
 
 -- "On setting": the point that set a status which is set, among what was seen; the status was not set before it
-pub record SetAt (w : Watch) (g : Going (w .Setting)) (ss : List (Sight (w .Point))) : Type 0 where
+pub record SetAt (w : Watch) (g : Going (w .Setting)) (ss : Sights w) : Type 0 where
   pub came : CameSet w g ss
   pub before : isSetBy w g (came .earlier) ≡ false
 

@@ -8,12 +8,12 @@ use Rattle.events.specs.Event.{Event}
 use Rattle.events.specs.Views.{atClock}
 use Rattle.paper.specs.Stored.{startsAnew}
 use Rattle.paper.specs.Samples.{microsecondsAt}
-use Rattle.lookback.specs.Sight.{Sight, point, passed}
-use Rattle.lookback.specs.Watch.{Mark, noMark, Watch, Going, goingBy, restarts, pointAt}
+use Rattle.lookback.specs.Sight.{point, passed}
+use Rattle.lookback.specs.Watch.{Mark, noMark, Watch, Sights, Going, goingBy, restarts, pointAt}
 
 module _ (w : Watch) where
   -- what came last decides: a point that sets, or a point that, non-latched, clears. No clock sets it
-  unfoldable pub isSetBy : Going (w .Setting) → List (Sight (w .Point)) → Bool
+  unfoldable pub isSetBy : Going (w .Setting) → Sights w → Bool
   isSetBy g [] = false
   isSetBy g (point p ∷ ss) =
       pick (w .sets (g .own) (point p ∷ ss)) true
@@ -23,22 +23,22 @@ module _ (w : Watch) where
 
   -- "the clock since its setting", in microseconds, of the status that was set last: it begins anew at the point that sets, and no other
   -- point touches it: "Calm points don't clear it sooner; over points don't extend it"
-  unfoldable pub sinceBy : Going (w .Setting) → List (Sight (w .Point)) → ℕ
+  unfoldable pub sinceBy : Going (w .Setting) → Sights w → ℕ
   sinceBy g [] = 0
   sinceBy g (point p ∷ ss) = pick (both (not (isSetBy g ss)) (isSetBy g (point p ∷ ss))) 0 (sinceBy g ss)
   sinceBy g (passed us ∷ ss) = sinceBy g ss + us
 
   -- Q-4: "when the clock since its setting reaches that time", of a status that is held for a time, where us more pass
-  abbrev pub reachedBy : Going (w .Setting) → List (Sight (w .Point)) → ℕ → Bool
+  abbrev pub reachedBy : Going (w .Setting) → Sights w → ℕ → Bool
   reachedBy g ss us = both (isSetBy g ss) (both (leb 1 (g .time)) (leb (g .time) (sinceBy g ss + us)))
 
   -- what an event lets it see
-  abbrev pub sightsAt : List Event → Event → List (Sight (w .Point))
+  abbrev pub sightsAt : List Event → Event → Sights w
   sightsAt es e = atClock (map point (pointAt w es e)) (λ us. passed us ∷ []) e
 
   -- what it has seen since the last restart or expiry: "An accepted write .. clears status, marks and runs"; "The status clears, with marks
   -- and runs". Of a clock in which the time is reached, what comes after that is seen
-  unfoldable pub seen : List Event → List (Sight (w .Point))
+  unfoldable pub seen : List Event → Sights w
   seen [] = []
   seen (e ∷ es) =
       pick (restarts w es e) []

@@ -31,6 +31,10 @@ pub record Watch : Type 1 where
   -- what is marked where a point sets the status
   pub mark : Point → Mark
 
+-- what it has seen, the latest first
+abbrev pub Sights : Watch → Type 0
+Sights w = List (Sight (w .Point))
+
 -- its own settings, and 0x21: whether it is non-latched, and for how long a status is held, 0 for no time
 pub record Going (Setting : Type 0) : Type 0 where
   pub own : Setting
