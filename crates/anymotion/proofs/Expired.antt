@@ -19,8 +19,10 @@ use Rattle.events.specs.Run.{after}
 use Rattle.events.specs.Bank.{bank, stored}
 use Rattle.events.proofs.Parts.{byParts, by-parts}
 use Rattle.events.proofs.Runs.{bank-is}
-use Rattle.rules.proofs.Proper.{proper}
-use Rattle.rules.proofs.Registers.{registers}
+use Rattle.paper.specs.Computed.{thePaper}
+use Rattle.paper.specs.Table.{masked}
+use Rattle.paper.proofs.Table.{masked-is}
+use Rattle.paper.proofs.Stored.{stored-is, always-stored}
 use Rattle.lookback.specs.InForce.{timeAsked}
 use Rattle.lookback.specs.Watch.{goingBy}
 use Rattle.lookback.specs.Seen.{clockSince, expires}
@@ -46,11 +48,10 @@ merged-again byte =
     rw (or-zero-r (bitAnd byte 0x0F), and-mask byte 4, or-zero-r (bitAnd (byte % 16) 0x0F), and-mask (byte % 16) 4, e)
 
 latch-again : (es : List Event) → merged (rowAt 0x21) (stored es 0x21) ≡ stored es 0x21
-unfolding theTable
+unfolding theTable thePaper
 latch-again es =
-    let w = proper es .written 0x21 (omega arith) refl in
-    let is : stored es 0x21 ≡ merged (rowAt 0x21) (w .byte) = sym (registers es 0x21) ∙ w .is in
-    rw is (merged-again (w .byte))
+    let left-by : (byte : ℕ) → merged (rowAt 0x21) (masked 0x21 byte) ≡ masked 0x21 byte = λ byte. rw (← masked-is 0x21 byte (omega arith) refl) (merged-again byte) in
+    rw (stored-is es 0x21 (omega arith)) (always-stored (λ v. merged (rowAt 0x21) v ≡ v) 0x21 refl (λ es byte ok. left-by byte) es)
 
 -- ---- the clock
 module _ (es : List Event) (us : ℕ) (x : expires anyMotion es (clock us) ≡ true) where

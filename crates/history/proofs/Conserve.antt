@@ -40,7 +40,7 @@ use Rattle.events.specs.Run.{after}
 use Rattle.events.specs.Views.{atRead}
 use Rattle.paper.specs.Samples.{Values, isSample, valuesAt}
 use Rattle.paper.specs.Readouts.{readsOut, clearsFifo}
-use Rattle.paper.proofs.Readouts.{readout-is}
+use Rattle.paper.proofs.Readouts.{readout-is, control-kept}
 use Rattle.demand3.specs.Chip.{Said, cleared, sampled, readOut, nothing, since}
 use Rattle.demand3.specs.Demand.{fates}
 use Rattle.history.specs.History.{control, setting, frameAt, saysHere, accelerometer, twin, LostIn, Demand3Here}
@@ -48,7 +48,7 @@ use Rattle.demand3.specs.Lost.{LostBy}
 use Rattle.demand3.specs.Whole.{OverClears}
 use Rattle.demand3.proofs.Chip.{isCleared, Lawful, Follows, conserves}
 use Rattle.demand3.proofs.Whole.{over-clears}
-use Rattle.history.proofs.Holds.{Holds, control-kept, frame-long, queueAt, holds-after, deep}
+use Rattle.history.proofs.Holds.{Holds, frame-long, queueAt, holds-after, deep}
 
 -- ---- a device that holds a queue
 module _ {c : ℕ} {q : Queue (List ℕ)} {d : Device} (h : Holds c q d) where

@@ -4,12 +4,11 @@
 use Prim.Native.Nat.{ℕ, _≤_}
 use mathlib.Core.Bool.{Bool, true, false}
 use mathlib.Core.List.{List, [], _∷_}
-use mathlib.Core.Path.{_≡_, refl, ap, _∙_}
+use mathlib.Core.Path.{_≡_, refl, _∙_}
 use native.Mathlib.Omega.{arith}
-use lib.Dec.{eqb}
 use lib.IntN.{ℤ}
 use lib.ListN.{length, getD, take}
-use Rattle.laws.specs.Choice.{pick, both, either}
+use Rattle.laws.specs.Choice.{pick, both}
 use Rattle.laws.proofs.Finite.{left, right}
 use Rattle.codes.specs.Addresses.{controlAt}
 use Rattle.codes.specs.Axes.{axesOf}
@@ -33,37 +32,15 @@ use Rattle.events.specs.Event.{Event, powerUp, write, read, sample, cycle, cloc
 use Rattle.events.specs.Run.{after}
 use Rattle.events.specs.Parts.{flatNext}
 use Rattle.events.proofs.Parts.{flat-next}
-use Rattle.events.proofs.Runs.{bank-is}
-use Rattle.paper.specs.Stored.{isSoftReset, none, last, byteLeft, lastWrite, byteBy, isAccepted}
+use Rattle.paper.specs.Stored.{byteBy}
 use Rattle.paper.specs.Samples.{isInside, allInside}
 use Rattle.paper.specs.Readouts.{readsOut, clearsFifo}
-use Rattle.paper.proofs.Stored.{stored-is}
+use Rattle.paper.proofs.Stored.{held-is}
 use Rattle.paper.proofs.Codes.{mode-known}
 use Rattle.paper.proofs.Samples.{sample-is, code-is, upper-is}
-use Rattle.paper.proofs.Readouts.{readout-is, clears-is}
+use Rattle.paper.proofs.Readouts.{readout-is, clears-is, control-kept}
 use Rattle.demand3.specs.Chip.{since}
 use Rattle.history.specs.History.{control, frame, saysHere, accelerometer}
-
--- ---- 0x3E
-control-is : (es : List Event) → getD (after es .regs) controlAt 0 ≡ control es
-control-is es = ap (λ (regs : List ℕ). getD regs controlAt 0) (bank-is es) ∙ stored-is es controlAt (omega arith)
-
--- what does not clear the FIFO leaves it
-pub control-kept : (es : List Event) (e : Event) → clearsFifo es e ≡ false → control (e ∷ es) ≡ control es
-unfolding byteBy
-control-kept es powerUp h = cc
-control-kept es (write a byte) h = go (isSoftReset a byte) (isAccepted es a byte) (eqb a 0x3E) h
-  where
-    go : (r t s : Bool) → either r (both t (either s false)) ≡ false → byteLeft 0x3E (pick (both s t) (last byte) (pick (both r true) none (lastWrite es 0x3E))) ≡ byteLeft 0x3E (lastWrite es 0x3E)
-    go true t s e = cc
-    go false true true e = cc
-    go false true false e = refl
-    go false false true e = refl
-    go false false false e = refl
-control-kept es (read a n) h = refl
-control-kept es (sample x y z t) h = refl
-control-kept es cycle h = refl
-control-kept es (clock us) h = refl
 
 -- ---- frames
 -- the store has room for the depth
@@ -147,8 +124,8 @@ stores-next : (es : List Event) (e : Event) {f : Flat} → Stores es f → Store
 unfolding since saysHere
 stores-next es powerUp h = stores-none (powerUp ∷ es) refl
 stores-next es (write a byte) h = rw (clears-is es a byte) (stores-write es h a byte)
-stores-next es (read a n) h = rw (readout-is a n, control-is es) (stores-read es h a n)
-stores-next es (sample x y z t) h = rw (sample-is x y z, control-is es) (stores-sample es h x y z t)
+stores-next es (read a n) h = rw (readout-is a n, held-is es controlAt (omega arith)) (stores-read es h a n)
+stores-next es (sample x y z t) h = rw (sample-is x y z, held-is es controlAt (omega arith)) (stores-sample es h x y z t)
 stores-next es cycle h = stores-other es h .0
 stores-next es (clock us) h = stores-other es h .1 us
 
@@ -166,4 +143,4 @@ pub record Holds (c : ℕ) (q : Queue (List ℕ)) (d : Device) : Type 0 where
   pub mode : isReservedMode (modeOf c) ≡ false
 
 pub holds-after : (es : List Event) → Holds (control es) (queueAt (control es) (since accelerometer es)) (after es)
-holds-after es = record { control = control-is es; same = stores-after es .same; fits = stores-after es .fits; mode = mode-known es }
+holds-after es = record { control = held-is es controlAt (omega arith); same = stores-after es .same; fits = stores-after es .fits; mode = mode-known es }

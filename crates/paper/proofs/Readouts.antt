@@ -2,7 +2,7 @@
 -- Assumes nothing.
 use Prim.Native.Nat.{ℕ}
 use mathlib.Core.Bool.{Bool, true, false, not}
-use mathlib.Core.List.{List}
+use mathlib.Core.List.{List, _∷_}
 use mathlib.Core.Path.{_≡_, refl, sym, _∙_}
 use mathlib.Core.Logic.{_≢_}
 use native.Mathlib.Omega.{arith}
@@ -16,10 +16,10 @@ use Rattle.registers.specs.Deeds.{isReset, clears}
 use Rattle.registers.specs.Refused.{readAnswer}
 use Rattle.registers.specs.declared.Answer.the-variants.{Done, BadLength}
 use Rattle.registers.proofs.Verdicts.{control-accepted}
-use Rattle.events.specs.Event.{Event, write}
+use Rattle.events.specs.Event.{Event, powerUp, write, read, sample, cycle, clock}
 use Rattle.events.specs.Bank.{bank}
 use Rattle.events.specs.Parts.{readsFrames}
-use Rattle.paper.specs.Stored.{isAccepted}
+use Rattle.paper.specs.Stored.{isSoftReset, none, last, byteLeft, lastWrite, byteBy, isAccepted}
 use Rattle.paper.specs.Readouts.{readsOut, clearsFifo}
 use Rattle.paper.proofs.Stored.{accepted-is}
 
@@ -75,3 +75,20 @@ clears-is es a byte = go (eqb a controlAt) refl
         rw (eqb-true a controlAt e)
         (swapped (not (isReservedMode (modeOf byte))) (isReset controlAt byte) (isAccepted es controlAt byte) (sym (accepted-is es controlAt byte) ∙ control-accepted (bank es) byte))
     go false e = rw e (alone (isReset a byte) (isAccepted es a byte))
+
+-- what does not clear the FIFO leaves 0x3E
+pub control-kept : (es : List Event) (e : Event) → clearsFifo es e ≡ false → byteBy (e ∷ es) 0x3E ≡ byteBy es 0x3E
+unfolding byteBy
+control-kept es powerUp h = cc
+control-kept es (write a byte) h = go (isSoftReset a byte) (isAccepted es a byte) (eqb a 0x3E) h
+  where
+    go : (r t s : Bool) → either r (both t (either s false)) ≡ false → byteLeft 0x3E (pick (both s t) (last byte) (pick (both r true) none (lastWrite es 0x3E))) ≡ byteLeft 0x3E (lastWrite es 0x3E)
+    go true t s e = cc
+    go false true true e = cc
+    go false true false e = refl
+    go false false true e = refl
+    go false false false e = refl
+control-kept es (read a n) h = refl
+control-kept es (sample x y z t) h = refl
+control-kept es cycle h = refl
+control-kept es (clock us) h = refl

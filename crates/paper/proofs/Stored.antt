@@ -2,7 +2,7 @@
 -- Assumes nothing.
 use Prim.Native.Nat.{ℕ, _<_}
 use mathlib.Core.Bool.{Bool, true, false, not}
-use mathlib.Core.Path.{_≡_, refl, sym, _∙_}
+use mathlib.Core.Path.{_≡_, refl, sym, ap, _∙_}
 use mathlib.Core.List.{List, [], _∷_}
 use native.Mathlib.Omega.{arith}
 use lib.Dec.{eqb}
@@ -16,11 +16,12 @@ use Rattle.registers.specs.Answers.{accepted}
 use Rattle.registers.specs.Refused.{writeAnswer}
 use Rattle.registers.specs.Deeds.{softResetByte, isReset}
 use Rattle.registers.proofs.Verdicts.{reset-accepted}
-use Rattle.device.specs.Device.{firstBytes}
+use Rattle.device.specs.Device.{firstBytes, reg}
 use Rattle.events.specs.Event.{Event, write, read, sample, cycle, clock}
 use Rattle.events.specs.Event as event
+use Rattle.events.specs.Run.{after}
 use Rattle.events.specs.Bank.{bank, stored}
-use Rattle.events.proofs.Runs.{bank-length}
+use Rattle.events.proofs.Runs.{bank-is, bank-length}
 use Rattle.paper.specs.Table.{resetOf, masked}
 use Rattle.paper.specs.Refused.{isReservedWrite, accepts}
 use Rattle.paper.specs.Stored.{isSoftReset, isSpared, none, last, lastWrite, byteLeft, byteBy, isAccepted}
@@ -102,6 +103,10 @@ stored-is (sample x y z t ∷ es) a h = stored-is es a h
 stored-is (cycle ∷ es) a h = stored-is es a h
 stored-is (clock us ∷ es) a h = stored-is es a h
 
+-- and so does the device
+pub held-is : (es : List Event) (a : ℕ) → a < 64 → reg (after es) a ≡ byteBy es a
+held-is es a h = ap (λ (regs : List ℕ). getD regs a 0) (bank-is es) ∙ stored-is es a h
+
 -- a write is accepted after the events where the registers accept it
 pub accepted-is : (es : List Event) (a byte : ℕ) → accepted (writeAnswer (bank es) a byte) ≡ isAccepted es a byte
 accepted-is es = accepted-after es (stored-is es)
@@ -125,3 +130,7 @@ module _ (P : ℕ → Type 0) (a : ℕ) (first : P (resetOf a)) (left-by : (es :
   always-stored (sample x y z t ∷ es) = always-stored es
   always-stored (cycle ∷ es) = always-stored es
   always-stored (clock us ∷ es) = always-stored es
+
+-- where no bit can be written, it is the reset byte
+pub never-written : (a : ℕ) → a < 64 → writable a ≡ false → (es : List Event) → byteBy es a ≡ resetOf a
+never-written a h w = always-stored (λ v. v ≡ resetOf a) a refl (λ es byte ok. masked-none a byte h w)

@@ -1,7 +1,7 @@
 -- 01's register table, as its text has it, is the one that the contracts cite: row by row, byte by byte, by computation.
 -- Assumes nothing.
 use Prim.Native.Nat.{ℕ, _<_}
-use mathlib.Core.Bool.{true, false}
+use mathlib.Core.Bool.{Bool, true, false}
 use mathlib.Core.Path.{_≡_, refl, sym, _∙_}
 use native.Mathlib.Omega.{arith}
 use lib.Bits.{bitAnd, bitXor, and-le-r, and-le-l, or-lt}
@@ -67,8 +67,20 @@ masked-is a byte h w =
     ∙ rw (b 7 (omega arith), b 6 (omega arith), b 5 (omega arith), b 4 (omega arith), b 3 (omega arith), b 2 (omega arith), b 1 (omega arith), b 0 (omega arith))
 
 -- where no bit can be written, the reset byte stays
+no-mask : (a : ℕ) → a < 64 → writable a ≡ false → maskOf a ≡ 0
+no-mask a h w = sym (mask-is a h) ∙ eqb-true (rowAt a .1) 0 (not-false (eqb (rowAt a .1) 0) w)
+
 pub masked-none : (a byte : ℕ) → a < 64 → writable a ≡ false → masked a byte ≡ resetOf a
 unfolding masked bit
 masked-none a byte h w =
-    let m : maskOf a ≡ 0 = sym (mask-is a h) ∙ eqb-true (rowAt a .1) 0 (not-false (eqb (rowAt a .1) 0) w) in
-    rw m (sym (byte-bits (resetOf a) (reset-small a h)))
+    rw (no-mask a h w) (sym (byte-bits (resetOf a) (reset-small a h)))
+
+-- so a bit of what is stored is the byte's where the mask has it, and the reset byte's elsewhere
+pub masked-bit : (a byte k : ℕ) → a < 64 → k < 8 → bit k (masked a byte) ≡ pick (bit k (maskOf a)) (bit k byte) (bit k (resetOf a))
+masked-bit a byte k h l = go (writable a) refl
+  where
+    go : (w : Bool) → writable a ≡ w → bit k (masked a byte) ≡ pick (bit k (maskOf a)) (bit k byte) (bit k (resetOf a))
+    go true w = rw (← masked-is a byte h w) (bit-merged (rowAt a) byte k l ∙ rw (mask-is a h, row-reset a h w))
+    go false w =
+        let none : bit k 0 ≡ false = alike (λ i. bit i 0) (λ i. false) 8 (unfold bit in refl) k l in
+        rw (masked-none a byte h w, no-mask a h w, none)

@@ -15,12 +15,13 @@ use Rattle.registers.specs.Answers.{accepted}
 use Rattle.registers.specs.Refused.{writeAnswer, answerAt, reservedCode, notModelled, lackAt}
 use Rattle.registers.specs.declared.Answer.the-variants.{Done, NoAddress, ReservedCode}
 use Rattle.registers.proofs.Answers.{lack-refused}
-use Rattle.device.specs.Device.{firstBytes, powerUp, reg}
+use Rattle.paper.specs.Computed.{thePaper}
+use Rattle.paper.specs.Table.{resetOf}
 
 -- ---- "Refused 3: a 1 in ..", 11 to 13 by Q-1
-pub first-clear : (a : ℕ) → a < 64 → bitAnd (reg powerUp a) (rowAt a .2) ≡ 0
-unfolding powerUp firstBytes theTable
-first-clear = alike (λ i. bitAnd (reg powerUp i) (rowAt i .2)) (λ i. 0) 64 refl
+pub first-clear : (a : ℕ) → a < 64 → bitAnd (resetOf a) (rowAt a .2) ≡ 0
+unfolding thePaper theTable
+first-clear = alike (λ i. bitAnd (resetOf i) (rowAt i .2)) (λ i. 0) 64 refl
 
 module _ (regs : List ℕ) (a byte : ℕ) (h : accepted (writeAnswer regs a byte) ≡ true) where
   -- neither 2 nor what stands in 3's place is due

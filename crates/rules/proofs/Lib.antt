@@ -1,5 +1,5 @@
 pub mod Codes
-pub mod Proper
+pub mod Few
 pub mod Bursts
 pub mod Channels
 pub mod Data

@@ -35,7 +35,7 @@ use Rattle.rules.specs.Bursts.{isBurst, singles}
 use Rattle.rules.specs.Data.{lastSample}
 use Rattle.rules.specs.Shown.{byteSeen, bitSeen}
 use Rattle.rules.specs.Rules.{Elsewhere, worthsAt, statusAddresses, statusesBy, ruled, ruledFrom, isTabled}
-use Rattle.rules.proofs.Proper.{deep, proper}
+use Rattle.rules.proofs.Few.{deep, few}
 use Rattle.paper.proofs.Stored.{stored-is}
 use Rattle.rules.proofs.Bursts.{burst-bounds, single, single-next, burst-gives}
 use Rattle.rules.proofs.Data.{data-is}
@@ -79,7 +79,7 @@ module _ (es : List Event) where
   w = elsewhereIn (after es)
 
   few-held : countAt depth (after es .fifo) ≡ after es .fifo .count
-  few-held = count-few deep (modeOf (reg (after es) controlAt)) (after es .fifo) (proper es .few)
+  few-held = count-few deep (modeOf (reg (after es) controlAt)) (after es .fifo) (few es)
 
   reached-here :
       let level = reg (after es) levelAt in
@@ -87,7 +87,7 @@ module _ (es : List Event) where
       ≡ both (both (leb 1 level) (leb level 32)) (leb level (after es .fifo .count))
   reached-here =
       let mode = modeOf (reg (after es) controlAt) in
-      reached-is (after es .fifo .count) (depthIn depth mode) (reg (after es) levelAt) (proper es .few) (depth-most deep mode)
+      reached-is (after es .fifo .count) (depthIn depth mode) (reg (after es) levelAt) (few es) (depth-most deep mode)
 
   -- the statuses of the device
   abbrev pub statusesNow : Statuses

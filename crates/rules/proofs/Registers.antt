@@ -11,7 +11,7 @@ use borrow.Author.Tests.{eqb-true, ltb-true, eq-eqb, ne-eqb}
 use Rattle.laws.specs.Choice.{pick, both}
 use Rattle.laws.specs.Lists.{isIn}
 use Rattle.laws.specs.Bits.{bit}
-use Rattle.laws.proofs.Finite.{alike, left, right, all, each}
+use Rattle.laws.proofs.Finite.{picked, alike, left, right, all, each}
 use Rattle.codes.specs.Addresses.{rangeAt, controlAt, resetAt, enablesAt, levelAt}
 use Rattle.codes.specs.Range.{rangeOf, isReservedRange}
 use Rattle.codes.specs.Mode.{modeOf, isReservedMode}
@@ -22,7 +22,7 @@ use Rattle.registers.specs.Answers.{number, accepted}
 use Rattle.registers.specs.Deeds.{softResetByte, isReset, judgement, deedsOf}
 use Rattle.registers.specs.Refused.{writeAnswer, answerAt, reservedCode, notModelled}
 use Rattle.registers.specs.declared.Answer.the-variants.{Done}
-use Rattle.device.specs.Device.{chipNumber, firstBytes, powerUp, reg}
+use Rattle.device.specs.Device.{chipNumber, powerUp, reg}
 use Rattle.device.specs.Show.{shownByte}
 use Rattle.device.specs.Read.{byteFrom, singleByte}
 use Rattle.device.specs.Write.{writeOf, written, regsReset}
@@ -32,12 +32,15 @@ use Rattle.events.specs.Run.{next, after, allGiven}
 use Rattle.events.specs.Bank.{bank, stored}
 use Rattle.events.proofs.Runs.{bank-is, bank-length}
 use Rattle.rules.specs.Rules.{isTabled}
-use Rattle.paper.proofs.Bits.{bit-merged, bit-clear}
-use Rattle.paper.proofs.Stored.{stored-is}
+use Rattle.paper.proofs.Bits.{bit-clear}
+use Rattle.paper.specs.Computed.{thePaper}
+use Rattle.paper.specs.Table.{resetOf, maskOf, masked}
+use Rattle.paper.specs.Stored.{byteBy, isAccepted}
+use Rattle.paper.proofs.Table.{masked-bit}
+use Rattle.paper.proofs.Stored.{stored-is, accepted-is, always-stored, never-written}
 use Rattle.paper.proofs.Codes as codes
 use Rattle.rules.proofs.Codes.{accepted-clear, first-clear}
 use Rattle.paper.proofs.Writes.{isStored, spared, byteWritten, byte-written, reset-byte}
-use Rattle.rules.proofs.Proper.{proper}
 use Rattle.rules.proofs.Bursts.{single}
 use Rattle.rules.proofs.Shown.{tabled-byte}
 
@@ -52,15 +55,15 @@ reads-tabled es a h t = single (after es) a h ∙ rw (tabled-byte (after es) a (
 
 -- the addresses of l read v, whatever happens
 abbrev constant : ℕ → ℕ → Bool
-constant v a = both (ltb a 0x3F) (both (isTabled a) (both (not (writable a)) (eqb (reg powerUp a) v)))
+constant v a = both (ltb a 0x3F) (both (isTabled a) (both (not (writable a)) (eqb (resetOf a) v)))
 
 reads-constant : (v : ℕ) (l : List ℕ) → all (constant v) l ≡ true → (es : List Event) (a : ℕ) → isIn l a ≡ true → gives (after es) (read a 1) ≡ bytes (v ∷ [])
 reads-constant v l c es a m = go (ltb a 0x3F) refl (isTabled a) refl (writable a) refl (each (constant v) l c a m)
   where
-    go : (h : Bool) → ltb a 0x3F ≡ h → (t : Bool) → isTabled a ≡ t → (w : Bool) → writable a ≡ w → both h (both t (both (not w) (eqb (reg powerUp a) v))) ≡ true → gives (after es) (read a 1) ≡ bytes (v ∷ [])
+    go : (h : Bool) → ltb a 0x3F ≡ h → (t : Bool) → isTabled a ≡ t → (w : Bool) → writable a ≡ w → both h (both t (both (not w) (eqb (resetOf a) v))) ≡ true → gives (after es) (read a 1) ≡ bytes (v ∷ [])
     go true eh true et false ew e =
         let h = ltb-true a 0x3F eh in
-        reads-tabled es a h et ∙ rw (← bank-is es, proper es .fixed a (omega arith) ew, eqb-true (reg powerUp a) v e)
+        reads-tabled es a h et ∙ rw (stored-is es a (omega arith), never-written a (omega arith) ew es, eqb-true (resetOf a) v e)
     go true eh true et true ew e = cc
     go true eh false et w ew e = cc
     go false eh t et w ew e = cc
@@ -68,55 +71,45 @@ reads-constant v l c es a m = go (ltb a 0x3F) refl (isTabled a) refl (writable a
 module _ (es : List Event) where
   -- "00 (0xFA)"
   pub reads-chip : gives (after es) (read 0x00 1) ≡ bytes (chipNumber ∷ [])
-  unfolding powerUp firstBytes theTable
+  unfolding thePaper theTable
   reads-chip = reads-constant chipNumber (0x00 ∷ []) refl es 0x00 refl
 
   -- "Reserved addresses 01, 0D, 15, 1C, 1D, 1F, 31, 35, 3D read 0xFF"
   pub reads-reserved : (a : ℕ) → isIn reservedAddresses a ≡ true → gives (after es) (read a 1) ≡ bytes (0xFF ∷ [])
-  unfolding powerUp firstBytes theTable
+  unfolding thePaper theTable
   reads-reserved = reads-constant 0xFF reservedAddresses refl es
 
   -- "02 to 0C .. (0)", of which 0C has no rule of its own; "Address 14 reads 0"
   pub reads-nothing : (a : ℕ) → isIn (0x0C ∷ 0x14 ∷ []) a ≡ true → gives (after es) (read a 1) ≡ bytes (0 ∷ [])
-  unfolding powerUp firstBytes theTable
+  unfolding thePaper theTable
   reads-nothing = reads-constant 0 (0x0C ∷ 0x14 ∷ []) refl es
 
   -- "33:F4/00", "36:10/00"
   pub reads-33 : gives (after es) (read 0x33 1) ≡ bytes (0xF4 ∷ [])
-  unfolding powerUp firstBytes theTable
+  unfolding thePaper theTable
   reads-33 = reads-constant 0xF4 (0x33 ∷ []) refl es 0x33 refl
 
   pub reads-36 : gives (after es) (read 0x36 1) ≡ bytes (0x10 ∷ [])
-  unfolding powerUp firstBytes theTable
+  unfolding thePaper theTable
   reads-36 = reads-constant 0x10 (0x36 ∷ []) refl es 0x36 refl
 
   -- ---- the settings
   module _ (a : ℕ) (low : a < 64) where
     -- "A write changes masked bits only; other bits keep their reset value"
-    pub kept : (k : ℕ) → k < 8 → bit k (rowAt a .1) ≡ false → bit k (stored es a) ≡ bit k (reg powerUp a)
-    unfolding after
-    kept k h m = rw (← bank-is es) (go (writable a) refl)
-      where
-        go : (w : Bool) → writable a ≡ w → bit k (reg (after es) a) ≡ bit k (reg powerUp a)
-        go true e =
-            let v = proper es .written a low e in
-            let f = proper [] .written a low e in
-            rw (v .is, f .is, bit-merged (rowAt a) (v .byte) k h, bit-merged (rowAt a) (f .byte) k h, m)
-        go false e = rw (proper es .fixed a low e)
+    pub kept : (k : ℕ) → k < 8 → bit k (maskOf a) ≡ false → bit k (byteBy es a) ≡ bit k (resetOf a)
+    kept k h m = always-stored (λ v. bit k v ≡ bit k (resetOf a)) a refl (λ es byte ok. masked-bit a byte k low h ∙ rw m) es
 
     -- "Refused 3: a 1 in ..", 11 to 13 by Q-1: no such bit is ever stored
-    pub unset : (k : ℕ) → k < 8 → bit k (rowAt a .2) ≡ true → bit k (stored es a) ≡ false
-    unset k h m = rw (← bank-is es) (go (writable a) refl (bit k (rowAt a .1)) refl)
+    pub unset : (k : ℕ) → k < 8 → bit k (rowAt a .2) ≡ true → bit k (byteBy es a) ≡ false
+    unset k h m = always-stored (λ v. bit k v ≡ false) a first left-by es
       where
-        at-first : bit k (reg powerUp a) ≡ false
-        at-first = bit-clear k h _ _ (first-clear a low) m
+        first : bit k (resetOf a) ≡ false
+        first = bit-clear k h _ _ (first-clear a low) m
 
-        go : (w : Bool) → writable a ≡ w → (t : Bool) → bit k (rowAt a .1) ≡ t → bit k (reg (after es) a) ≡ false
-        go false e t f = rw (proper es .fixed a low e) at-first
-        go true e false f = rw (bank-is es) (kept k h f ∙ at-first)
-        go true e true f =
-            let v = proper es .written a low e in
-            rw (v .is, bit-merged (rowAt a) (v .byte) k h, f) (bit-clear k h _ _ (accepted-clear (v .regs) a (v .byte) (v .ok)) m)
+        left-by : (es : List Event) (byte : ℕ) → isAccepted es a byte ≡ true → bit k (masked a byte) ≡ false
+        left-by es byte ok =
+            let clear = bit-clear k h byte (rowAt a .2) (accepted-clear (bank es) a byte (accepted-is es a byte ∙ ok)) m in
+            masked-bit a byte k low h ∙ picked (λ t. t ≡ false) (bit k (maskOf a)) clear first
 
   -- "every other low nibble is refused 2"
   pub range-known : isReservedRange (rangeOf (stored es rangeAt)) ≡ false

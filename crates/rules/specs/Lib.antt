@@ -2,4 +2,3 @@ pub mod Bursts
 pub mod Data
 pub mod Shown
 pub mod Rules
-pub mod Proper
