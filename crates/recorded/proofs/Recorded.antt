@@ -4,7 +4,8 @@ use Prim.Native.Nat.{ℕ}
 use mathlib.Core.List.{List, [], _∷_, _++_, map, append-assoc}
 use mathlib.Core.Path.{_≡_, refl, ap, sym, _∙_}
 use Rattle.events.specs.Event.{Event, clock}
-use Rattle.recorded.specs.Recorded.{Recorded, eventsIn, eventsOf, beforeOwn}
+use Rattle.events.specs.Run.{next, after}
+use Rattle.recorded.specs.Recorded.{Recorded, eventsIn, eventsOf, beforeOwn, waited, atOwn}
 
 -- those of earlier and later records
 pub events-append : (later earlier : List Recorded) → eventsOf (later ++ earlier) ≡ eventsOf later ++ eventsOf earlier
@@ -20,3 +21,12 @@ module _ {A : Type 0} (f : List Event → A) (waits : (us : ℕ) (es : List Even
 
   pub till-own : (r : Recorded) (rs : List Recorded) → f (beforeOwn r rs) ≡ f (eventsOf rs)
   till-own r rs = behind-clocks (r .clocks) (eventsOf rs)
+
+-- after a history the device is at a record's own event
+clocks-pass : (clocks : List ℕ) (es : List Event) → waited (after es) clocks ≡ after (map clock clocks ++ es)
+unfolding after
+clocks-pass [] es = refl
+clocks-pass (us ∷ clocks) es = ap (λ d. next d (clock us)) (clocks-pass clocks es)
+
+pub at-own : (r : Recorded) (rs : List Recorded) → atOwn (after (eventsOf rs)) r ≡ after (beforeOwn r rs)
+at-own r rs = clocks-pass (r .clocks) (eventsOf rs)

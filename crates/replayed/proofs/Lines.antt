@@ -18,13 +18,13 @@ use Rattle.benchlog.proofs.Logs.{few-records}
 use Rattle.device.specs.Show.{pinsOf}
 use Rattle.events.specs.Event.{Event, happens}
 use Rattle.events.specs.Run.{after}
-use Rattle.entries.specs.Entries.{eventOf}
 use Rattle.text.specs.Text.{pinsLine}
 use Rattle.follow.specs.Whole.{joined, textOf, textOfLog, printedFrom}
 use Rattle.follow.proofs.Whole.{joined-append}
-use Rattle.playback.specs.Replay.{start, at, lineAs, stopText, replayer, printed}
+use Rattle.playback.specs.Replay.{start, at, lineAs, stopText, textOn, nextOn, replayer, printed}
 use Rattle.playback.specs.declared.Replay.{Replay}
 use Rattle.recorded.specs.Recorded.{Recorded, recordOf, eventsOf, recordsBehind, historyOf}
+use Rattle.recorded.proofs.Recorded.{at-own}
 use Rattle.replayed.specs.Lines.{lettersIf, lineText, givenBy, recordLine, recordLines, stopLines, lastLine, linesIn}
 use Rattle.replayed.specs.Replayed.{StandsIn, lineBehind, Replayed}
 use Rattle.replayed.proofs.Text.{line-is, last-is, joined-last, refused-is}
@@ -53,16 +53,16 @@ module _ (pins : Bool) where
   abbrev stateOf : List Recorded → Replay
   stateOf rs = at pins (after (eventsOf rs)) (suc (length rs))
 
-  next-state : (rs : List Recorded) (e : Entry) → suc (suc (length rs)) < 2 ^ 64 → replayer .next (stateOf rs) e ≡ stateOf (recordOf e ∷ rs)
+  next-state : (rs : List Recorded) (r : Recorded) → suc (suc (length rs)) < 2 ^ 64 → nextOn (stateOf rs) r ≡ stateOf (r ∷ rs)
   unfolding after
-  next-state rs e room =
+  next-state rs r room =
       let n : (suc (length rs) + 1) % 2 ^ 64 ≡ suc (suc (length rs)) = omega arith in
-      ap (at pins (happens (after (eventsOf rs)) (eventOf e) .device)) n
+      λ i. at pins (happens (at-own r rs i) (r .own) .device) (n i)
 
   -- a record's text is its line
-  line-next : (rs : List Recorded) (e : Entry) → replayer .text (stateOf rs) e ≡ recordLine pins rs (recordOf e)
+  line-next : (rs : List Recorded) (r : Recorded) → textOn (stateOf rs) r ≡ recordLine pins rs r
   unfolding after
-  line-next rs e = let g = givenBy (recordOf e) rs in line-is pins (suc (length rs)) (g .number) (g .bytes) (eventsOf (recordOf e ∷ rs))
+  line-next rs r = let g = givenBy r rs in rw (at-own r rs) (line-is pins (suc (length rs)) (g .number) (g .bytes) (eventsOf (r ∷ rs)))
 
   -- no record is left: the end of the log, or a refusal of the record that the replay is at
   stop-line : (number stop : ℕ) (es : List Event)
@@ -90,9 +90,9 @@ module _ (pins : Bool) where
   lines-read [] stop rs room = ap (λ (t : List ℕ). linesText rs ++ t) (stop-next stop rs)
   lines-read (e ∷ es) stop rs room =
       let few : suc (suc (length rs)) < 2 ^ 64 = omega arith in
-      ap (λ (l : List ℕ). linesText rs ++ (l ++ textOf replayer (replayer .next (stateOf rs) e) es stop)) (line-next rs e)
+      ap (λ (l : List ℕ). linesText rs ++ (l ++ textOf replayer (replayer .next (stateOf rs) e) es stop)) (line-next rs (recordOf e))
       ∙ sym (append-assoc (linesText rs) (recordLine pins rs (recordOf e)) _)
-      ∙ (λ i. sym (one-more rs (recordOf e)) i ++ textOf replayer (next-state rs e few i) es stop)
+      ∙ (λ i. sym (one-more rs (recordOf e)) i ++ textOf replayer (next-state rs (recordOf e) few i) es stop)
       ∙ lines-read es stop (recordOf e ∷ rs) (omega arith)
 
 -- ---- the whole log

@@ -19,14 +19,14 @@ use Rattle.benchlog.specs.declared.Begins.the-variants as begins
 use Rattle.benchlog.specs.declared.Entry.{Entry}
 use Rattle.benchlog.proofs.Logs.{few-records}
 use Rattle.events.specs.Run.{after}
-use Rattle.entries.specs.Entries.{eventOf}
 use Rattle.recorded.specs.Recorded.{Recorded, recordOf, eventsOf, beforeOwn, answerTo, recordsBehind, historyOf}
 use Rattle.follow.specs.Whole.{textOf, textOfLog, printedFrom}
 use Rattle.counts.specs.Counts.{ends}
+use Rattle.recorded.proofs.Recorded.{at-own}
 use Rattle.stretches.specs.Histories.{accountOf, whyWith, isEnd, lastEnd}
 use Rattle.stretches.proofs.Histories.{account-first, account-next, why-is}
 use Rattle.stretches.proofs.Stretches.{ends-is}
-use Rattle.answers.specs.Answer.{start, at, recordText, markAfter, answerer, printed}
+use Rattle.answers.specs.Answer.{start, at, recordText, markAfter, textOn, nextOn, answerer, printed}
 use Rattle.told.specs.Histories.{atMark, toldOf, endOf, told}
 use Rattle.answers.specs.declared.Answering.{Answering}
 use Rattle.answers.specs.declared.Asked.{Asked}
@@ -87,15 +87,15 @@ no-mark Whole = refl
 abbrev pub answeringOf : Asked → List Recorded → Answering
 answeringOf asked rs = at (after (eventsOf rs)) (accountOf rs) (accountOf (atMark asked rs)) asked
 
-module _ (asked : Asked) (rs : List Recorded) (e : Entry) (room : suc (length rs) < 2 ^ 64) where
-  pub answering-next : answerer .next (answeringOf asked rs) e ≡ answeringOf asked (recordOf e ∷ rs)
+module _ (asked : Asked) (rs : List Recorded) (r : Recorded) (room : suc (length rs) < 2 ^ 64) where
+  pub answering-next : nextOn (answeringOf asked rs) r ≡ answeringOf asked (r ∷ rs)
   unfolding after
-  answering-next = rw (account-next rs (recordOf e) room, why-is (eventsOf rs) (eventOf e), mark-next asked (recordOf e) rs)
+  answering-next = rw (at-own r rs, account-next rs r room, why-is (beforeOwn r rs) (r .own), mark-next asked r rs)
 
-  pub answering-text : answerer .text (answeringOf asked rs) e
-      ≡ recordText asked (accountOf (atMark asked rs)) (accountOf rs) (accountOf (recordOf e ∷ rs)) (eventOf e) (answerTo (recordOf e) rs) (whyWith (recordOf e) rs)
+  pub answering-text : textOn (answeringOf asked rs) r
+      ≡ recordText asked (accountOf (atMark asked rs)) (accountOf rs) (accountOf (r ∷ rs)) (r .own) (answerTo r rs) (whyWith r rs)
   unfolding after
-  answering-text = rw (account-next rs (recordOf e) room, why-is (eventsOf rs) (eventOf e))
+  answering-text = rw (at-own r rs, account-next rs r room, why-is (beforeOwn r rs) (r .own))
 
 -- ---- the lines
 -- all that is told: of the records of a history, and where the log stops behind them
@@ -110,7 +110,7 @@ lines-told asked [] stop rs room = refl
 lines-told asked (e ∷ es) stop rs room =
     let few : suc (length rs) < 2 ^ 64 = omega arith in
     sym (append-assoc (toldOf asked rs) _ _)
-    ∙ (λ i. (toldOf asked rs ++ answering-text asked rs e few i) ++ textOf answerer (answering-next asked rs e few i) es stop)
+    ∙ (λ i. (toldOf asked rs ++ answering-text asked rs (recordOf e) few i) ++ textOf answerer (answering-next asked rs (recordOf e) few i) es stop)
     ∙ lines-told asked es stop (recordOf e ∷ rs) (omega arith)
 
 -- ---- the whole log
