@@ -1,9 +1,10 @@
 -- After any history the any-motion detector is the one that looking back tells. Assumes nothing.
-use Prim.Native.Nat.{ℕ, _-_, _≤_}
+use Prim.Native.Nat.{ℕ, _-_, _<_, _≤_}
 use mathlib.Core.Bool.{Bool, true, false}
 use mathlib.Core.List.{List, [], _∷_, map}
 use mathlib.Core.Path.{_≡_, refl, ap, _∙_}
 use native.Mathlib.Omega.{arith}
+use lib.ListN.{getD}
 use Rattle.laws.specs.Choice.{pick, both}
 use Rattle.laws.specs.Lists.{isIn}
 use Rattle.alarm.specs.Course as course
@@ -53,7 +54,8 @@ module _ (es : List Event) (ss : List (Sight OverAxes)) where
   unfolding goingBy
   clears-is = refl
 
-not-both : (es : List Event) (p : OverAxes) (ss : List (Sight OverAxes)) → anyMotion .clears (pointsAsked es) (point p ∷ ss) ≡ true → anyMotion .sets (pointsAsked es) (point p ∷ ss) ≡ false
+not-both : (es : List Event) (p : OverAxes) (ss : List (Sight OverAxes)) → anyMotion .clears (pointsAsked es) (point p ∷ ss) ≡ true
+    → anyMotion .sets (pointsAsked es) (point p ∷ ss) ≡ false
 unfolding goingBy
 not-both es = apart anyMotion (goingBy anyMotion es) isOver (pointsAsked es) (some-asked es) (sets-is es) (clears-is es)
 
@@ -89,7 +91,8 @@ settingsBy es = record { axes = byteBy es 0x16; points = byteBy es 0x27; thresho
 
 settings-are : (es : List Event) → motionSettings (bank es) ≡ settingsBy es
 settings-are es =
-    rw (stored-is es 0x16 (omega arith), stored-is es 0x27 (omega arith), stored-is es 0x28 (omega arith), stored-is es 0x21 (omega arith), latch-is (byteBy es 0x21), hold-is (byteBy es 0x21))
+    let byte : (a : ℕ) → a < 64 → getD (bank es) a 0 ≡ byteBy es a = stored-is es in
+    rw (byte 0x16 (omega arith), byte 0x27 (omega arith), byte 0x28 (omega arith), byte 0x21 (omega arith), latch-is (byteBy es 0x21), hold-is (byteBy es 0x21))
 
 -- an accepted sample
 module _ (es : List Event) (v : Values) where

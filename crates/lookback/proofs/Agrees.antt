@@ -78,7 +78,10 @@ module _ (w : Watch) (l : Lawful w) (part : Part w) where
           ∙ sym (told-next r (passed us ∷ seen w es) s ∙ rw (part .passes (goingBy w es) us (seen w es)) (go (isSet w es)))
         where
           go : (t : Bool) → _≡_ {A = Detector (part .course .Run)}
-              (record { run = part .course .later us (part .runOf (goingBy w es) (seen w es)); alarm = alarmBy (isSet w es) (pick (both (not t) t) (markOf w (pointAt w es e)) (marked w es)) (time - (since + us)) })
+              (record {
+                run = part .course .later us (part .runOf (goingBy w es) (seen w es));
+                alarm = alarmBy (isSet w es) (pick (both (not t) t) (markOf w (pointAt w es e)) (marked w es)) (time - (since + us));
+              })
               (standing (isSet w es) (time - (since + us)))
           go true = refl
           go false = refl
@@ -122,8 +125,11 @@ module _ (w : Watch) (l : Lawful w) (part : Part w) where
         run : part .course .Run
         run = part .runOf (goingBy w es) (point p ∷ seen w es)
 
+        before : Bool → Alarm
+        before t = alarmBy t m (time - since)
+
         go : (o c t : Bool) → _≡_ {A = Detector (part .course .Run)}
-            (record { run = run; alarm = pick o (raised (w .mark p .axis) (w .mark p .negative) time (alarmBy t m (time - since))) (pick c (cleared (alarmBy t m (time - since))) (alarmBy t m (time - since))) })
+            (record { run = run; alarm = pick o (raised (w .mark p .axis) (w .mark p .negative) time (before t)) (pick c (cleared (before t)) (before t)) })
             (record {
               run = run;
               alarm =

@@ -67,7 +67,8 @@ pub deed-is : (deed : Deeds → Bool) (addresses : List ℕ) → ((regs : List �
     → (es : List Event) (a byte : ℕ) → deed (judgement (bank es) a byte .deeds) ≡ both (isAccepted es a byte) (isIn addresses a)
 unfolding judgement
 deed-is deed addresses done undone es a byte =
-    of-pick deed (accepted (writeAnswer (bank es) a byte)) (deedsOf (bank es) (rowAt a) a byte) noDeeds ∙ rw (accepted-is es a byte, done (bank es) (rowAt a) a byte, undone) (go (isAccepted es a byte))
+    of-pick deed (accepted (writeAnswer (bank es) a byte)) (deedsOf (bank es) (rowAt a) a byte) noDeeds
+    ∙ rw (accepted-is es a byte, done (bank es) (rowAt a) a byte, undone) (go (isAccepted es a byte))
   where
     go : (t : Bool) → pick t (isIn addresses a) false ≡ both t (isIn addresses a)
     go true = refl

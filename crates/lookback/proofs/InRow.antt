@@ -139,7 +139,9 @@ module _ (w : Watch) (g : Going (w .Setting)) (isOver : w .Point → Bool) (n : 
         later = pointsIn (c .later);
         row = take n (c .setter ∷ pointsIn (c .earlier));
         earlier = drop n (c .setter ∷ pointsIn (c .earlier));
-        split = ap pointsIn (c .split) ∙ points-joined (c .later) (point (c .setter) ∷ c .earlier) ∙ ap (λ (qs : List (w .Point)). pointsIn (c .later) ++ qs) (sym (take-append-drop n (c .setter ∷ pointsIn (c .earlier))));
+        split =
+            ap pointsIn (c .split) ∙ points-joined (c .later) (point (c .setter) ∷ c .earlier)
+            ∙ ap (λ (qs : List (w .Point)). pointsIn (c .later) ++ qs) (sym (take-append-drop n (c .setter ∷ pointsIn (c .earlier))));
         many = taken-many isOver n (c .setter ∷ pointsIn (c .earlier)) (sym (sets-is (point (c .setter) ∷ c .earlier)) ∙ c .sets);
         all = taken-all isOver n (c .setter ∷ pointsIn (c .earlier)) (sym (sets-is (point (c .setter) ∷ c .earlier)) ∙ c .sets);
       };

@@ -97,7 +97,8 @@ module _ (w : Watch) (l : Lawful w) where
   marked-all (e ∷ es) = marked-on es e (marked-all es) (next w l es e)
 
   -- what is shown is what the setter marks
-  pub marks-of-setter : (es : List Event) (a : Setter w es) → (isSet w es ≡ true) × (markShown w es ≡ w .mark (a .came .setter) .axis) × (signShown w es ≡ w .mark (a .came .setter) .negative)
+  pub marks-of-setter : (es : List Event) (a : Setter w es)
+      → (isSet w es ≡ true) × (markShown w es ≡ w .mark (a .came .setter) .axis) × (signShown w es ≡ w .mark (a .came .setter) .negative)
   marks-of-setter es a =
       let o = set-only w (goingBy w es) (seen w es) a in
       let k = marked-all es (o .0) ∙ o .1 in

@@ -98,7 +98,8 @@ module _ (enabled threshold : ℕ) where
   point-is new p [] h = rw h
   point-is new p (old ∷ olds) h = rw (h, none-enabled enabled, over-is old new) (go (anyEnabled enabled))
     where
-      go : (t : Bool) → pick (either (not true) (not t)) None (asPoint (aboveAmong enabled threshold (axesBetween old new))) ≡ asPoints (pick t (aboveAmong enabled threshold (axesBetween old new) ∷ []) [])
+      go : (t : Bool) → pick (either (not true) (not t)) None (asPoint (aboveAmong enabled threshold (axesBetween old new)))
+          ≡ asPoints (pick t (aboveAmong enabled threshold (axesBetween old new) ∷ []) [])
       go true = refl
       go false = refl
 

@@ -39,7 +39,8 @@ written e d = of-pick (λ (s : Detectors). s .previous) (e .resets) allQuiet _
 previous-next : (es : List Event) (d : Detectors) → Follows (d .previous) (samples es) → (e : Event) → Follows (detectorsNext (bank es) e d .previous) (samples (e ∷ es))
 unfolding samples beginsAnew detectorsSampled detectorsClocked
 previous-next es d h powerUp = refl
-previous-next es d h (write a byte) = rw (written (judgement (bank es) a byte .deeds) d, resets-is (bank es) a byte, forgets-is es a byte) (go (isReset a byte) (both (isAccepted es a byte) (isIn forgetting a)))
+previous-next es d h (write a byte) =
+    rw (written (judgement (bank es) a byte .deeds) d, resets-is (bank es) a byte, forgets-is es a byte) (go (isReset a byte) (both (isAccepted es a byte) (isIn forgetting a)))
   where
     go : (r f : Bool) → Follows (pick r noPrevious (pick f (forgotten (d .previous)) (d .previous))) (pick (either r f) [] (samples es))
     go true f = refl
