@@ -27,16 +27,7 @@ use Rattle.paper.specs.Refused.{isReservedWrite, accepts}
 use Rattle.paper.specs.Stored.{isSoftReset, isSpared, none, last, lastWrite, byteLeft, byteBy, isAccepted}
 use Rattle.paper.proofs.Table.{reset-is, masked-is, masked-none}
 use Rattle.paper.proofs.Refused.{accepts-is}
-use Rattle.paper.proofs.Writes.{isStored, byteWritten, byte-written, fixed-next}
-
--- where no bit can be written, the byte is the reset byte
-fixed : (es : List Event) (a : ℕ) → writable a ≡ false → stored es a ≡ getD firstBytes a 0
-unfolding bank
-fixed [] a w = refl
-fixed (e ∷ es) a w = fixed-next (bank es) (bank-length es) e a w (fixed es a w)
-
-fixed-is : (es : List Event) (a : ℕ) → a < 64 → writable a ≡ false → stored es a ≡ resetOf a
-fixed-is es a h w = fixed es a w ∙ reset-is a h
+use Rattle.paper.proofs.Writes.{isStored, byteWritten, byte-written}
 
 -- a soft reset's address has no bit that can be written, and a write to it is always accepted
 at-reset : (a byte : ℕ) → isReset a byte ≡ true → (isSpared a ≡ false) × (writable a ≡ false) × ((regs : List ℕ) → accepted (writeAnswer regs a byte) ≡ true)
@@ -51,6 +42,30 @@ soft-reset-is a byte = refl
 same-accepts : (held held′ : ℕ → ℕ) → ((k : ℕ) → k < 64 → held k ≡ held′ k) → (a b : ℕ) → accepts held a b ≡ accepts held′ a b
 unfolding accepts isReservedWrite
 same-accepts held held′ same a b = rw (same 0x0F (omega arith), same 0x3E (omega arith))
+
+-- what holds of the reset byte, and of what each accepted write to an address leaves there, holds of the byte that it stores
+module _ (P : ℕ → Type 0) (a : ℕ) (first : P (resetOf a)) (left-by : (es : List Event) (byte : ℕ) → isAccepted es a byte ≡ true → P (masked a byte)) where
+  pub always-stored : (es : List Event) → P (byteBy es a)
+  unfolding byteBy
+  always-stored [] = first
+  always-stored (event.powerUp ∷ es) = first
+  always-stored (write c byte ∷ es) = go (eqb c a) refl (isAccepted es c byte) refl (both (isSoftReset c byte) (not (isSpared a))) (always-stored es)
+    where
+      go : (s : Bool) → eqb c a ≡ s → (t : Bool) → isAccepted es c byte ≡ t → (u : Bool) → P (byteLeft a (lastWrite es a))
+          → P (byteLeft a (pick (both s t) (last byte) (pick u none (lastWrite es a))))
+      go true e true f u p = left-by es byte (rw (← eqb-true c a e) f)
+      go true e false f true p = first
+      go true e false f false p = p
+      go false e t f true p = first
+      go false e t f false p = p
+  always-stored (read c n ∷ es) = always-stored es
+  always-stored (sample x y z t ∷ es) = always-stored es
+  always-stored (cycle ∷ es) = always-stored es
+  always-stored (clock us ∷ es) = always-stored es
+
+-- where no bit can be written, it is the reset byte
+pub never-written : (a : ℕ) → a < 64 → writable a ≡ false → (es : List Event) → byteBy es a ≡ resetOf a
+never-written a h w = always-stored (λ v. v ≡ resetOf a) a refl (λ es byte ok. masked-none a byte h w)
 
 module _ (es : List Event) (before : (k : ℕ) → k < 64 → stored es k ≡ byteBy es k) where
   accepted-after : (a byte : ℕ) → accepted (writeAnswer (bank es) a byte) ≡ isAccepted es a byte
@@ -68,7 +83,7 @@ module _ (es : List Event) (before : (k : ℕ) → k < 64 → stored es k ≡ by
             ≡ byteLeft a (pick t (last byte) (pick (both r (not (isSpared a))) none (lastWrite es a)))
         go true p true q w o = let z = at-reset a byte q in rw (z .0) (reset-is a h ∙ sym (masked-none a byte h (z .1)))
         go true p false q true o = masked-is a byte h o
-        go true p false q false o = fixed-is es a h o ∙ sym (masked-none a byte h o)
+        go true p false q false o = before a h ∙ never-written a h o es ∙ sym (masked-none a byte h o)
         go false p true q w o = cc (at-reset a byte q .2 (bank es), accepted-after a byte)
         go false p false q w o = before a h
 
@@ -110,27 +125,3 @@ held-is es a h = ap (λ (regs : List ℕ). getD regs a 0) (bank-is es) ∙ store
 -- a write is accepted after the events where the registers accept it
 pub accepted-is : (es : List Event) (a byte : ℕ) → accepted (writeAnswer (bank es) a byte) ≡ isAccepted es a byte
 accepted-is es = accepted-after es (stored-is es)
-
--- what holds of the reset byte, and of what each accepted write to an address leaves there, holds of the byte that it stores
-module _ (P : ℕ → Type 0) (a : ℕ) (first : P (resetOf a)) (left-by : (es : List Event) (byte : ℕ) → isAccepted es a byte ≡ true → P (masked a byte)) where
-  pub always-stored : (es : List Event) → P (byteBy es a)
-  unfolding byteBy
-  always-stored [] = first
-  always-stored (event.powerUp ∷ es) = first
-  always-stored (write c byte ∷ es) = go (eqb c a) refl (isAccepted es c byte) refl (both (isSoftReset c byte) (not (isSpared a))) (always-stored es)
-    where
-      go : (s : Bool) → eqb c a ≡ s → (t : Bool) → isAccepted es c byte ≡ t → (u : Bool) → P (byteLeft a (lastWrite es a))
-          → P (byteLeft a (pick (both s t) (last byte) (pick u none (lastWrite es a))))
-      go true e true f u p = left-by es byte (rw (← eqb-true c a e) f)
-      go true e false f true p = first
-      go true e false f false p = p
-      go false e t f true p = first
-      go false e t f false p = p
-  always-stored (read c n ∷ es) = always-stored es
-  always-stored (sample x y z t ∷ es) = always-stored es
-  always-stored (cycle ∷ es) = always-stored es
-  always-stored (clock us ∷ es) = always-stored es
-
--- where no bit can be written, it is the reset byte
-pub never-written : (a : ℕ) → a < 64 → writable a ≡ false → (es : List Event) → byteBy es a ≡ resetOf a
-never-written a h w = always-stored (λ v. v ≡ resetOf a) a refl (λ es byte ok. masked-none a byte h w)

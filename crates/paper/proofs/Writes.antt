@@ -11,7 +11,7 @@ use lib.Seq.{getD-set-same, getD-set-other}
 use borrow.Author.Tests.{eqb-true, eqb-false, lt-ltb}
 use Rattle.laws.specs.Choice.{pick, both}
 use Rattle.laws.specs.Lists.{isIn}
-use Rattle.laws.proofs.Finite.{left, right}
+use Rattle.laws.proofs.Finite.{left}
 use Rattle.codes.specs.Addresses.{firstSpareAt, secondSpareAt}
 use Rattle.table.specs.Rows.{rowAt, merged, writable}
 use Rattle.registers.specs.Answers.{accepted}
@@ -20,7 +20,7 @@ use Rattle.registers.specs.Deeds.{isReset, judgement}
 use Rattle.registers.proofs.Verdicts.{accepted-below, stores-is, resets-is}
 use Rattle.device.specs.Device.{firstBytes}
 use Rattle.device.specs.Write.{regsReset, storedAt}
-use Rattle.events.specs.Event.{Event, powerUp, write, read, sample, cycle, clock}
+use Rattle.events.specs.Event.{write}
 use Rattle.events.specs.Bank.{bankNext}
 use Rattle.events.proofs.Runs.{first-length}
 
@@ -72,28 +72,3 @@ byte-written regs long c a byte = rw (resets-is regs a byte, stores-is regs a by
         let h = accepted-below regs a byte (left (accepted (writeAnswer regs a byte)) (writable a) e) in
         rw (lt-ltb a 64 h) (getD-set regs a (merged (rowAt a) byte) c (omega arith))
     go false false e = refl
-
--- what holds of a byte before an event, at power-up and after a write that is stored holds after any event
-pub byte-next : (P : ℕ → Type 0) (regs : List ℕ) → length regs ≡ 64 → (a : ℕ) (e : Event) → P (getD regs a 0) → P (getD firstBytes a 0)
-    → ((byte : ℕ) → isStored regs a byte ≡ true → P (merged (rowAt a) byte)) → P (getD (bankNext regs e) a 0)
-byte-next P regs long a powerUp p q r = q
-byte-next P regs long a (write c byte) p q r =
-    rw (byte-written regs long a c byte) (go (isReset c byte) (isIn spared a) (isStored regs c byte) refl (eqb a c) refl)
-  where
-    go : (t s u : Bool) → isStored regs c byte ≡ u → (v : Bool) → eqb a c ≡ v
-        → P (pick t (pick s (getD regs a 0) (getD firstBytes a 0)) (pick (both u v) (merged (rowAt c) byte) (getD regs a 0)))
-    go true true u e v f = p
-    go true false u e v f = q
-    go false s true e true f = rw (← eqb-true a c f) (r byte (rw (eqb-true a c f) e))
-    go false s true e false f = p
-    go false s false e v f = p
-byte-next P regs long a (read c n) p q r = p
-byte-next P regs long a (sample x y z t) p q r = p
-byte-next P regs long a cycle p q r = p
-byte-next P regs long a (clock us) p q r = p
-
--- where no bit can be written, the byte is as at power-up
-pub fixed-next : (regs : List ℕ) → length regs ≡ 64 → (e : Event) (a : ℕ) → writable a ≡ false → getD regs a 0 ≡ getD firstBytes a 0
-    → getD (bankNext regs e) a 0 ≡ getD firstBytes a 0
-fixed-next regs long e a w p =
-    byte-next (λ (v : ℕ). v ≡ getD firstBytes a 0) regs long a e p refl (λ byte s. cc (w, right (accepted (writeAnswer regs a byte)) (writable a) s))
