@@ -8,20 +8,20 @@ use native.Mathlib.Omega.{arith}
 use lib.Dec.{eqb, ltb}
 use lib.ListN.{getD}
 use borrow.Author.Tests.{eqb-true, ltb-true, eq-eqb, ne-eqb}
-use Rattle.laws.specs.Choice.{pick, both}
+use Rattle.laws.specs.Choice.{both}
 use Rattle.laws.specs.Lists.{isIn}
 use Rattle.laws.specs.Bits.{bit}
-use Rattle.laws.proofs.Finite.{picked, alike, left, right, all, each}
+use Rattle.laws.proofs.Finite.{picked, left, right, all, each, at-any}
 use Rattle.codes.specs.Addresses.{rangeAt, controlAt, resetAt, enablesAt, levelAt}
 use Rattle.codes.specs.Range.{rangeOf, isReservedRange}
 use Rattle.codes.specs.Mode.{modeOf, isReservedMode}
-use Rattle.table.specs.Rows.{reservedAddresses, rowAt, merged, writable, theTable}
+use Rattle.table.specs.Rows.{reservedAddresses, rowAt, writable, theTable}
 use Rattle.detectors.specs.Detectors.{detectorsWritten}
 use Rattle.interrupts.specs.Statuses.{statusesOf}
-use Rattle.registers.specs.Answers.{number, accepted}
-use Rattle.registers.specs.Deeds.{softResetByte, isReset, judgement, deedsOf}
+use Rattle.registers.specs.Answers.{number}
+use Rattle.registers.specs.Deeds.{softResetByte, judgement, deedsOf}
 use Rattle.registers.specs.Refused.{writeAnswer, answerAt, reservedCode, notModelled}
-use Rattle.registers.specs.declared.Answer.the-variants.{Done}
+use Rattle.registers.proofs.Answers.{zero-accepted}
 use Rattle.device.specs.Device.{chipNumber, powerUp, reg}
 use Rattle.device.specs.Show.{shownByte}
 use Rattle.device.specs.Read.{byteFrom, singleByte}
@@ -30,17 +30,17 @@ use Rattle.device.specs.declared.Device.{Device}
 use Rattle.events.specs.Event.{Event, write, read, answer, bytes, gives}
 use Rattle.events.specs.Run.{next, after, allGiven}
 use Rattle.events.specs.Bank.{bank, stored}
-use Rattle.events.proofs.Runs.{bank-is, bank-length}
+use Rattle.events.proofs.Runs.{bank-is}
 use Rattle.rules.specs.Rules.{isTabled}
 use Rattle.paper.proofs.Bits.{bit-clear}
 use Rattle.paper.specs.Computed.{thePaper}
 use Rattle.paper.specs.Table.{resetOf, maskOf, masked}
-use Rattle.paper.specs.Stored.{byteBy, isAccepted}
+use Rattle.paper.specs.Stored.{isSoftReset, byteBy, isAccepted}
 use Rattle.paper.proofs.Table.{masked-bit}
-use Rattle.paper.proofs.Stored.{stored-is, accepted-is, always-stored, never-written}
+use Rattle.paper.proofs.Stored.{stored-is, held-is, accepted-is, always-stored, never-written}
 use Rattle.paper.proofs.Codes as codes
 use Rattle.rules.proofs.Codes.{accepted-clear, first-clear}
-use Rattle.paper.proofs.Writes.{isStored, spared, byteWritten, byte-written, reset-byte}
+use Rattle.paper.proofs.Writes.{spared, reset-byte}
 use Rattle.rules.proofs.Bursts.{single}
 use Rattle.rules.proofs.Shown.{tabled-byte}
 
@@ -49,9 +49,9 @@ pub registers : (es : List Event) (a : ℕ) → reg (after es) a ≡ stored es a
 registers es a = ap (λ (regs : List ℕ). getD regs a 0) (bank-is es)
 
 -- ---- "Register table"
--- of these addresses the byte is that of the last write that was stored, since reset, or the reset byte
-pub reads-tabled : (es : List Event) (a : ℕ) → a < 0x3F → isTabled a ≡ true → gives (after es) (read a 1) ≡ bytes (stored es a ∷ [])
-reads-tabled es a h t = single (after es) a h ∙ rw (tabled-byte (after es) a (omega arith) t, bank-is es)
+-- of these addresses the byte is that of the last accepted write, since reset, or the reset byte
+pub reads-tabled : (es : List Event) (a : ℕ) → a < 0x3F → isTabled a ≡ true → gives (after es) (read a 1) ≡ bytes (byteBy es a ∷ [])
+reads-tabled es a h t = single (after es) a h ∙ rw (tabled-byte (after es) a (omega arith) t, held-is es a (omega arith))
 
 -- the addresses of l read v, whatever happens
 abbrev constant : ℕ → ℕ → Bool
@@ -63,7 +63,7 @@ reads-constant v l c es a m = go (ltb a 0x3F) refl (isTabled a) refl (writable a
     go : (h : Bool) → ltb a 0x3F ≡ h → (t : Bool) → isTabled a ≡ t → (w : Bool) → writable a ≡ w → both h (both t (both (not w) (eqb (resetOf a) v))) ≡ true → gives (after es) (read a 1) ≡ bytes (v ∷ [])
     go true eh true et false ew e =
         let h = ltb-true a 0x3F eh in
-        reads-tabled es a h et ∙ rw (stored-is es a (omega arith), never-written a (omega arith) ew es, eqb-true (resetOf a) v e)
+        reads-tabled es a h et ∙ rw (never-written a (omega arith) ew es, eqb-true (resetOf a) v e)
     go true eh true et true ew e = cc
     go true eh false et w ew e = cc
     go false eh t et w ew e = cc
@@ -120,41 +120,26 @@ module _ (es : List Event) where
   mode-known = rw (stored-is es controlAt (omega arith)) (codes.mode-known es)
 
 -- ---- one write more
--- an address that can be written is of the table, and not 0x14
-writable-away : (a : ℕ) → a < 64 → writable a ≡ true → (isTabled a ≡ true) × (eqb a resetAt ≡ false)
-unfolding theTable
-writable-away a h w =
-    let t = alike (λ i. pick (writable i) (isTabled i) true) (λ i. true) 64 refl a h in
-    let n = alike (λ i. pick (writable i) (eqb i resetAt) false) (λ i. false) 64 refl a h in
-    (rw w at t, rw w at n)
-
 module _ (es : List Event) (a byte : ℕ) where
-  -- the byte of an address of the table after it
-  read-next : (c : ℕ) → c < 0x3F → isTabled c ≡ true → gives (after (write a byte ∷ es)) (read c 1) ≡ bytes (byteWritten (bank es) c a byte ∷ [])
-  unfolding bank
-  read-next c h t = reads-tabled (write a byte ∷ es) c h t ∙ rw (byte-written (bank es) (bank-length es) c a byte)
-
   pub answered : gives (after es) (write a byte) ≡ answer (number (writeAnswer (bank es) a byte))
   unfolding writeOf judgement
   answered = rw (bank-is es)
 
-  -- a write that is answered 0 reads back under its mask
-  pub write-reads : a < 0x3F → writable a ≡ true → writeAnswer (bank es) a byte ≡ Done → allGiven (after es) (write a byte ∷ read a 1 ∷ []) ≡ answer 0 ∷ bytes (merged (rowAt a) byte ∷ []) ∷ []
-  unfolding after
-  write-reads h w e =
-      let ok : accepted (writeAnswer (bank es) a byte) ≡ true = ap accepted e in
-      let own : eqb a a ≡ true = eq-eqb a a refl in
-      let away = writable-away a (omega arith) w in
-      let back : gives (next (after es) (write a byte)) (read a 1) ≡ bytes (merged (rowAt a) byte ∷ []) = read-next a h (away .0) ∙ rw (away .1, ok, w, own) in
-      rw (answered, back, e)
+  -- an accepted write is answered 0 and reads back under its mask
+  pub write-reads : a < 0x3F → isTabled a ≡ true → isAccepted es a byte ≡ true → allGiven (after es) (write a byte ∷ read a 1 ∷ []) ≡ answer 0 ∷ bytes (masked a byte ∷ []) ∷ []
+  unfolding after byteBy
+  write-reads h t ok =
+      let done : number (writeAnswer (bank es) a byte) ≡ 0 = eqb-true _ 0 (sym (zero-accepted (writeAnswer (bank es) a byte)) ∙ accepted-is es a byte ∙ ok) in
+      let is : byteBy (write a byte ∷ es) a ≡ masked a byte = rw (eq-eqb a a refl, ok) in
+      let back : gives (next (after es) (write a byte)) (read a 1) ≡ bytes (masked a byte ∷ []) = reads-tabled (write a byte ∷ es) a h t ∙ rw is in
+      rw (answered, back, done)
 
   -- a write changes no other register's byte, soft reset excepted
-  pub write-others : (c : ℕ) → c < 0x3F → isTabled c ≡ true → (c ≡ a → ⊥) → isReset a byte ≡ false → gives (after (write a byte ∷ es)) (read c 1) ≡ gives (after es) (read c 1)
-  write-others c h t n r = read-next c h t ∙ rw (r, ne-eqb c a n) (go (isStored (bank es) a byte)) ∙ sym (reads-tabled es c h t)
-    where
-      go : (s : Bool) → bytes (pick (both s false) (merged (rowAt a) byte) (stored es c) ∷ []) ≡ bytes (stored es c ∷ [])
-      go true = refl
-      go false = refl
+  pub write-others : (c : ℕ) → c < 0x3F → isTabled c ≡ true → (a ≡ c → ⊥) → isSoftReset a byte ≡ false → gives (after (write a byte ∷ es)) (read c 1) ≡ gives (after es) (read c 1)
+  unfolding byteBy
+  write-others c h t n r =
+      let is : byteBy (write a byte ∷ es) c ≡ byteBy es c = rw (ne-eqb a c n, r) in
+      reads-tabled (write a byte ∷ es) c h t ∙ rw is (sym (reads-tabled es c h t))
 
 -- a device with other registers
 abbrev withRegs : Device → List ℕ → Device
@@ -193,10 +178,12 @@ module _ (es : List Event) where
       rw (reset-answered, back)
 
   pub reset-keeps : (c : ℕ) → isIn spared c ≡ true → allGiven (after es) (softReset ∷ read c 1 ∷ []) ≡ answer 0 ∷ gives (after es) (read c 1) ∷ []
-  unfolding after
+  unfolding after byteBy
   reset-keeps c n =
       let e = each (λ a. both (ltb a 0x3F) (isTabled a)) spared refl c n in
       let h = ltb-true c 0x3F (left (ltb c 0x3F) (isTabled c) e) in
       let t = right (ltb c 0x3F) (isTabled c) e in
-      let back : gives (next (after es) softReset) (read c 1) ≡ gives (after es) (read c 1) = read-next es resetAt softResetByte c h t ∙ rw n (sym (reads-tabled es c h t)) in
+      let away : eqb 0x14 c ≡ false = at-any (λ a. eqb 0x14 a ≡ false) spared (refl, (refl, tt)) c n in
+      let is : byteBy (softReset ∷ es) c ≡ byteBy es c = rw (n, away) in
+      let back : gives (next (after es) softReset) (read c 1) ≡ gives (after es) (read c 1) = reads-tabled (softReset ∷ es) c h t ∙ rw is (sym (reads-tabled es c h t)) in
       rw (reset-answered, back)
