@@ -2,7 +2,7 @@
 use Prim.Native.Nat.{ℕ, _+_, _<_}
 use mathlib.Core.Bool.{false}
 use mathlib.Core.List.{List, [], _∷_, _++_}
-use mathlib.Core.Path.{_≡_, refl, ap, _∙_}
+use mathlib.Core.Path.{_≡_, refl, sym, ap, _∙_}
 use native.Mathlib.Omega.{arith}
 use lib.ListN.{length, length-append}
 use Rattle.laws.specs.Bits.{bit, worth}
@@ -11,6 +11,7 @@ use Rattle.events.specs.Event.{Event, write, clock, bytes, gives}
 use Rattle.events.specs.Bank.{stored}
 use Rattle.events.proofs.Runs.{alike-later}
 use Rattle.rules.specs.Shown.{bitSeen}
+use Rattle.paper.proofs.Stored.{stored-is}
 use Rattle.rules.proofs.Registers.{reads-tabled}
 use Rattle.lookback.specs.Sight.{Sight, pointsIn}
 use Rattle.lookback.specs.Held.{samplesOver, SetFor, Clears}
@@ -44,7 +45,7 @@ module _ (es : List Event) (us rest : ℕ) (c : Clears anyMotion es us rest) whe
     marks = reads-marks (clock us ∷ es) ∙ ap (λ (b : ℕ). bytes (b ∷ [])) sign-left;
     runs = too-few (clock us ∷ es) (ap {A = List (Sight OverAxes)} pointsIn (c .left));
     latch = stored es 0x21;
-    holds = reads-tabled es 0x21 (omega arith) refl;
+    holds = reads-tabled es 0x21 (omega arith) refl ∙ ap (λ (b : ℕ). bytes (b ∷ [])) (sym (stored-is es 0x21 (omega arith)));
     no-more = λ later e. ap (λ (d : Device). gives d e) (alike-later later (clock us ∷ es) (write 0x21 (stored es 0x21) ∷ es) (as-written es us (c .expired)));
   }
 
