@@ -99,7 +99,8 @@ one-size es e f = go (clearsFifo es e) (isSample e)
     v : Values
     v = valuesAt es e
 
-    go : (t s : Bool) → pick t cleared (pick s (sampled (frameAt es v)) (atRead nothing (λ a n. pick (readsOut a n) (readOut n) nothing) e)) ≡ sampled f → length f ≡ setting es .size
+    go : (t s : Bool) → pick t cleared (pick s (sampled (frameAt es v)) (atRead nothing (λ a n. pick (readsOut a n) (readOut n) nothing) e)) ≡ sampled f
+        → length f ≡ setting es .size
     go true s q = cc
     go false true q = let k : f ≡ frameAt es v = cc in rw k (frame-long (axesOf (control es)) (v .x) (v .y) (v .z) .1)
     go false false q = cc (readout-said e)
@@ -134,7 +135,8 @@ readout-only : (es : List Event) (e : Event) (n : ℕ) → saysHere es e ≡ rea
 unfolding saysHere
 readout-only es e n = go (clearsFifo es e) (isSample e)
   where
-    go : (t s : Bool) → pick t cleared (pick s (sampled (frameAt es (valuesAt es e))) (atRead nothing (λ a m. pick (readsOut a m) (readOut m) nothing) e)) ≡ readOut n → readsOut framesAt n ≡ true
+    go : (t s : Bool) → pick t cleared (pick s (sampled (frameAt es (valuesAt es e))) (atRead nothing (λ a m. pick (readsOut a m) (readOut m) nothing) e)) ≡ readOut n
+        → readsOut framesAt n ≡ true
     go true s q = cc
     go false true q = cc
     go false false q = read-said n e q

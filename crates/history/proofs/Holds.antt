@@ -47,7 +47,8 @@ use Rattle.history.specs.History.{control, frame, saysHere, acceleromete
 pub deep : Deep room depth
 deep = record { some = omega arith; space = omega arith }
 
-frame-is : (a : Axes) (x y z : ℤ) → isInside x ≡ true → isInside y ≡ true → isInside z ≡ true → take (sizeOf a) (frameOf a (codes x y z)) ≡ frame a x y z
+frame-is : (a : Axes) (x y z : ℤ) → isInside x ≡ true → isInside y ≡ true → isInside z ≡ true
+    → take (sizeOf a) (frameOf a (codes x y z)) ≡ frame a x y z
 unfolding frame
 frame-is All x y z p q r = rw (code-is x p, code-is y q, code-is z r, upper-is x, upper-is y, upper-is z)
 frame-is X x y z p q r = rw (code-is x p, upper-is x)
@@ -97,7 +98,8 @@ module _ (es : List Event) {f : Flat} (h : Stores es f) where
       go false e = record { same = rw e (h .same); fits = rw e (h .fits) }
 
   stores-sample : (x y z : ℤ) (t : ℕ)
-      → let axes = axesOf (control es) in Stores (sample x y z t ∷ es) (pick (allInside x y z) (pushedAt depth (modeOf (control es)) axes (frameOf axes (codes x y z)) f) f)
+      → let axes = axesOf (control es) in
+      Stores (sample x y z t ∷ es) (pick (allInside x y z) (pushedAt depth (modeOf (control es)) axes (frameOf axes (codes x y z)) f) f)
   unfolding byteBy since saysHere queueAt
   stores-sample x y z t = go (allInside x y z) refl
     where
@@ -108,8 +110,9 @@ module _ (es : List Event) {f : Flat} (h : Stores es f) where
           → Stores (sample x y z t ∷ es) (pick s (pushedAt depth (modeOf (control es)) (axesOf (control es)) (frameOf (axesOf (control es)) (codes x y z)) f) f)
       go true e =
           let l = frame-long (axesOf c) x y z in
+          let first = left (isInside x) (both (isInside y) (isInside z)) e in
           let rest = right (isInside x) (both (isInside y) (isInside z)) e in
-          let is = frame-is (axesOf c) x y z (left (isInside x) (both (isInside y) (isInside z)) e) (left (isInside y) (isInside z) rest) (right (isInside y) (isInside z) rest) in
+          let is = frame-is (axesOf c) x y z first (left (isInside y) (isInside z) rest) (right (isInside y) (isInside z) rest) in
           record {
             same = rw (e, h .same) (pushed-packed (h .fits) (modeOf c) (frameOf (axesOf c) (codes x y z)) (l .0) ∙ rw is);
             fits = rw e (fits-pushed (h .fits) (modeOf c) (frame (axesOf c) x y z) (l .1));

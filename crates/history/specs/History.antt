@@ -1,4 +1,5 @@
--- The accelerometer: what its events from power-up alone say of the FIFO, in the words of the crate paper; only `twin` looks at a device. In a history the latest event stands first.
+-- The accelerometer: what its events from power-up alone say of the FIFO, in the words of the crate paper; only `twin` looks at a device. In
+-- a history the latest event stands first.
 use Prim.Native.Nat.{ℕ, _≤_}
 use mathlib.Core.Bool.{true}
 use mathlib.Core.List.{List, [], _∷_, _++_}

@@ -9,4 +9,5 @@ use Rattle.laws.specs.Outcome.{SourceClauses, Claim, promised}
 pub record Promises (T : Ended) (contract : SourceClauses T) (said : Claim T) : Type 3 where
   pub claim : Claim T
   pub asks-nothing : contract ≡ promised T claim
-  pub says : (κs : Lfts (T .signature .lifetimes)) (a : Args (T .signature) κs) (r : Res (T .signature) κs) (e : AtExit T κs) → claim κs a r e → said κs a r e
+  pub says : (κs : Lfts (T .signature .lifetimes)) (a : Args (T .signature) κs) (r : Res (T .signature) κs) (e : AtExit T κs)
+      → claim κs a r e → said κs a r e

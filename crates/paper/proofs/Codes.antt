@@ -29,7 +29,9 @@ range-stored byte = sym (masked-is 0x0F byte (omega arith) refl) ∙ or-zero-r (
 
 mode-stored : (byte : ℕ) → masked 0x3E byte / 64 ≡ byte / 64 % 4
 unfolding theTable
-mode-stored byte = ap (λ n. n / 64) (sym (masked-is 0x3E byte (omega arith) refl) ∙ or-zero-r (bitAnd byte 0xC3)) ∙ and-shr byte 0xC3 6 ∙ and-mask (byte / 64) 2
+mode-stored byte =
+    ap (λ n. n / 64) (sym (masked-is 0x3E byte (omega arith) refl) ∙ or-zero-r (bitAnd byte 0xC3))
+    ∙ and-shr byte 0xC3 6 ∙ and-mask (byte / 64) 2
 
 is-not : (t : Bool) → not t ≡ true → t ≡ false
 is-not true h = cc
@@ -51,7 +53,8 @@ range-known = always-stored (λ v. isReservedRange (rangeOf v) ≡ false) 0x0F r
 small-mode : (q : ℕ) → isReservedMode (pick (eqb q 0) Bypass (pick (eqb q 1) Fifo (pick (eqb q 2) Stream Reserved))) ≡ false → q < 3
 small-mode q = go (eqb q 0) refl (eqb q 1) refl (eqb q 2) refl
   where
-    go : (r : Bool) → eqb q 0 ≡ r → (s : Bool) → eqb q 1 ≡ s → (t : Bool) → eqb q 2 ≡ t → isReservedMode (pick r Bypass (pick s Fifo (pick t Stream Reserved))) ≡ false → q < 3
+    go : (r : Bool) → eqb q 0 ≡ r → (s : Bool) → eqb q 1 ≡ s → (t : Bool) → eqb q 2 ≡ t
+        → isReservedMode (pick r Bypass (pick s Fifo (pick t Stream Reserved))) ≡ false → q < 3
     go true e s f t g h = omega (arith, eqb-true)
     go false e true f t g h = omega (arith, eqb-true)
     go false e false f true g h = omega (arith, eqb-true)

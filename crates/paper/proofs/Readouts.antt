@@ -73,7 +73,8 @@ clears-is es a byte = go (eqb a controlAt) refl
     go : (t : Bool) → eqb a controlAt ≡ t → clears a byte ≡ clearsFifo es (write a byte)
     go true e =
         rw (eqb-true a controlAt e)
-        (swapped (not (isReservedMode (modeOf byte))) (isReset controlAt byte) (isAccepted es controlAt byte) (sym (accepted-is es controlAt byte) ∙ control-accepted (bank es) byte))
+        (swapped (not (isReservedMode (modeOf byte))) (isReset controlAt byte) (isAccepted es controlAt byte)
+        (sym (accepted-is es controlAt byte) ∙ control-accepted (bank es) byte))
     go false e = rw e (alone (isReset a byte) (isAccepted es a byte))
 
 -- what does not clear the FIFO leaves 0x3E
@@ -82,7 +83,8 @@ unfolding byteBy
 control-kept es powerUp h = cc
 control-kept es (write a byte) h = go (isSoftReset a byte) (isAccepted es a byte) (eqb a 0x3E) h
   where
-    go : (r t s : Bool) → either r (both t (either s false)) ≡ false → byteLeft 0x3E (pick (both s t) (last byte) (pick (both r true) none (lastWrite es 0x3E))) ≡ byteLeft 0x3E (lastWrite es 0x3E)
+    go : (r t s : Bool) → either r (both t (either s false)) ≡ false
+        → byteLeft 0x3E (pick (both s t) (last byte) (pick (both r true) none (lastWrite es 0x3E))) ≡ byteLeft 0x3E (lastWrite es 0x3E)
     go true t s e = cc
     go false true true e = cc
     go false true false e = refl

@@ -34,7 +34,8 @@ means-other : {A : Type 0} (isOther : A → Bool) (other : A) → isOther other 
 means-other isOther other o [] ps n = o
 means-other isOther other o (k ∷ ks) ps n = go (eqb n (k .code)) (means-other isOther other o ks (ps .1) n)
   where
-    go : (t : Bool) → isOther (meaningOf ks other n) ≡ not (isIn (codesOf ks) n) → isOther (pick t (k .meaning) (meaningOf ks other n)) ≡ not (either t (isIn (codesOf ks) n))
+    go : (t : Bool) → isOther (meaningOf ks other n) ≡ not (isIn (codesOf ks) n)
+        → isOther (pick t (k .meaning) (meaningOf ks other n)) ≡ not (either t (isIn (codesOf ks) n))
     go true later = ps .0
     go false later = later
 

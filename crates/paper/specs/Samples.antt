@@ -44,7 +44,7 @@ brings es e = pick (isSample e) (valuesAt es e ∷ []) []
 abbrev pub twelveBits : ℤ → ℕ
 twelveBits v = natAbs (v +ℤ pos 4096) % 4096
 
--- "The LSB register holds its low four bits in 7:4, 0 in 3:1 and the new-data bit in 0, the MSB register holds the upper eight"
+-- "The LSB register holds its low four bits in 7:4, 0 in 3:1 and the new-data bit in 0; the MSB register holds the upper eight"
 abbrev pub lsbByte : Bool → ℕ → ℕ
 lsbByte new bits = bits % 16 * 16 + worth 1 new
 

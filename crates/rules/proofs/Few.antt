@@ -50,7 +50,8 @@ few-next es f p (read a n) =
 few-next es f p (sample x y z t) =
     let axes = axesOf (byteBy es 0x3E) in
     rw (held-is es controlAt (omega arith))
-    (picked (λ (g : Flat). Few (byteBy es 0x3E) g) (accepted (sampleAnswer x y z)) (pushed-few deep (modeOf (byteBy es 0x3E)) axes (frameOf axes (codes x y z)) f p) p)
+    (picked (λ (g : Flat). Few (byteBy es 0x3E) g) (accepted (sampleAnswer x y z))
+    (pushed-few deep (modeOf (byteBy es 0x3E)) axes (frameOf axes (codes x y z)) f p) p)
 few-next es f p cycle = p
 few-next es f p (clock us) = p
 

@@ -126,16 +126,19 @@ module _ (es : List Event) (a byte : ℕ) where
   answered = rw (bank-is es)
 
   -- an accepted write is answered 0 and reads back under its mask
-  pub write-reads : a < 0x3F → isTabled a ≡ true → isAccepted es a byte ≡ true → allGiven (after es) (write a byte ∷ read a 1 ∷ []) ≡ answer 0 ∷ bytes (masked a byte ∷ []) ∷ []
+  pub write-reads : a < 0x3F → isTabled a ≡ true → isAccepted es a byte ≡ true
+      → allGiven (after es) (write a byte ∷ read a 1 ∷ []) ≡ answer 0 ∷ bytes (masked a byte ∷ []) ∷ []
   unfolding after byteBy
   write-reads h t ok =
-      let done : number (writeAnswer (bank es) a byte) ≡ 0 = eqb-true _ 0 (sym (zero-accepted (writeAnswer (bank es) a byte)) ∙ accepted-is es a byte ∙ ok) in
+      let done : number (writeAnswer (bank es) a byte) ≡ 0 =
+      eqb-true _ 0 (sym (zero-accepted (writeAnswer (bank es) a byte)) ∙ accepted-is es a byte ∙ ok) in
       let is : byteBy (write a byte ∷ es) a ≡ masked a byte = rw (eq-eqb a a refl, ok) in
       let back : gives (next (after es) (write a byte)) (read a 1) ≡ bytes (masked a byte ∷ []) = reads-tabled (write a byte ∷ es) a h t ∙ rw is in
       rw (answered, back, done)
 
   -- a write changes no other register's byte, soft reset excepted
-  pub write-others : (c : ℕ) → c < 0x3F → isTabled c ≡ true → (a ≡ c → ⊥) → isSoftReset a byte ≡ false → gives (after (write a byte ∷ es)) (read c 1) ≡ gives (after es) (read c 1)
+  pub write-others : (c : ℕ) → c < 0x3F → isTabled c ≡ true → (a ≡ c → ⊥) → isSoftReset a byte ≡ false
+      → gives (after (write a byte ∷ es)) (read c 1) ≡ gives (after es) (read c 1)
   unfolding byteBy
   write-others c h t n r =
       let is : byteBy (write a byte ∷ es) c ≡ byteBy es c = rw (ne-eqb a c n, r) in
@@ -185,5 +188,6 @@ module _ (es : List Event) where
       let t = right (ltb c 0x3F) (isTabled c) e in
       let away : eqb 0x14 c ≡ false = at-any (λ a. eqb 0x14 a ≡ false) spared (refl, (refl, tt)) c n in
       let is : byteBy (softReset ∷ es) c ≡ byteBy es c = rw (n, away) in
-      let back : gives (next (after es) softReset) (read c 1) ≡ gives (after es) (read c 1) = reads-tabled (softReset ∷ es) c h t ∙ rw is (sym (reads-tabled es c h t)) in
+      let back : gives (next (after es) softReset) (read c 1) ≡ gives (after es) (read c 1) =
+      reads-tabled (softReset ∷ es) c h t ∙ rw is (sym (reads-tabled es c h t)) in
       rw (reset-answered, back)
