@@ -26,6 +26,7 @@ use Rattle.jobs.specs.Job.{worker, toReplay, toAnswer}
 use Rattle.jobs.specs.declared.Job.{Job}
 use Rattle.jobs.specs.declared.Task.{Task}
 use Rattle.jobs.specs.declared.Task.the-variants as task
+use Rattle.stream.specs.Led.{ledTo}
 use Rattle.stream.specs.Pump.{PumpedAs, statusOf}
 use Rattle.stream.specs.declared.Ended.{Ended}
 use Rattle.stream.specs.declared.How.{How}
@@ -151,6 +152,7 @@ module _ (printed : List ℕ → List ℕ) (k : Task) (job : Job) (off : worker 
   means = record {
     each = λ ended. either-way ended (ended .how) refl;
     text = λ ended log f. f .stopped .text (f .rest) (f .may) ∙ ap printed (sym (f .log-is));
+    led = λ ended log f. f .stopped .led (f .rest) (f .may) ∙ ap (ledTo (worker k) job) (sym (f .log-is));
     done = done-is;
     refused = refused-is;
     failed = failed-is;

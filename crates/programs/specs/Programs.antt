@@ -8,9 +8,11 @@ use lib.IntN.{pos, negsuc}
 use Rattle.follow.specs.Whole.{joined}
 use Rattle.text.specs.Text.{decimal}
 use Rattle.outcomes.specs.Demand1.{DueOfLog}
+use Rattle.jobs.specs.Job.{worker}
 use Rattle.jobs.specs.declared.Job.{Job}
 use Rattle.jobs.specs.declared.Task.{Task}
 use Rattle.window.specs.Given.{gotOf}
+use Rattle.stream.specs.Led.{ledTo}
 use Rattle.stream.specs.Pump.{MayFollow, allBlocks, StoppedLog, PumpedAs, statusOf}
 use Rattle.stream.specs.declared.Ended.{Ended}
 use Rattle.stream.specs.declared.How.{How}
@@ -36,6 +38,8 @@ pub record StatusMeans (printed : List ℕ → List ℕ) (k : Task) (job : Job) 
   pub each : (ended : Ended) → PumpedAs (ended .how) printed k job ended → Failed (ended .how) ⊎ ((log : List ℕ) × Followed printed k job ended log)
   -- what it handed to its writes is, joined, what is printed of that log
   pub text : (ended : Ended) (log : List ℕ) (f : Followed printed k job ended log) → joined (allBlocks (f .stopped .last)) ≡ printed log
+  -- and the job that it hands back is the one to which the log leads
+  pub led : (ended : Ended) (log : List ℕ) → Followed printed k job ended log → ended .job ≡ ledTo (worker k) job log
   -- 0 exactly where 0 is due of the log: it ended at a record boundary, and nothing was refused
   pub done : (ended : Ended) (log : List ℕ) → Followed printed k job ended log → (statusOf (ended .how) ≡ 0) ↔ DueOfLog log 0
   -- 3 exactly where 7, 8 or 9 is due of it

@@ -1,6 +1,6 @@
 -- Turns over the parts that reads give: what the runs see is, in order and whole, the sum of the parts, and the last of them is known to be
 -- the last. So the blocks that are handed to the writes are, joined, the text of the whole log, or its beginning; and what stops the last
--- run is what stops the log.
+-- run is what stops the log, and it has come to where the log leads.
 -- Assumes nothing.
 use Prim.Native.Nat.{ℕ}
 use mathlib.Core.Bool.{Bool, true, false}
@@ -25,7 +25,9 @@ use Rattle.window.specs.Window.{unused}
 use Rattle.window.specs.declared.Window.{Window}
 use Rattle.window.proofs.Places.{unused-past}
 use Rattle.stream.specs.declared.State.{State}
+use Rattle.stream.specs.Led.{ledTo}
 use Rattle.stream.specs.Pump.{pumpStart, ranOver, ranTo, ReadMore, Went, emptied, refilled, someOf, partIn, isNone, endIn, endSeen, TurnsDone, none, again, MayFollow}
+use Rattle.stream.proofs.Leads.{run-leads}
 
 joined-some : (part : List ℕ) → joined (someOf part) ≡ part
 joined-some [] = refl
@@ -35,39 +37,36 @@ joined-some (b ∷ bs) = append-nil (b ∷ bs)
 abbrev OpenTo : State → List ℕ → Type 0
 OpenTo s rest = s .window .last ≡ true → rest ≡ []
 
--- what blocks count for
-module _ (counted : List ℕ → List ℕ) where
-  abbrev countedIn : List (List ℕ) → List ℕ
-  countedIn [] = []
-  countedIn (b ∷ bs) = counted b ++ countedIn bs
+-- what blocks, one after the other, make of what follows them
+module _ {A : Type 0} (onto : List ℕ → A → A) where
+  abbrev allOnto : List (List ℕ) → A → A
+  allOnto [] x = x
+  allOnto (b ∷ bs) x = onto b (allOnto bs x)
 
-  one-block : (bs : List (List ℕ)) (b rest : List ℕ) → countedIn (bs ++ (b ∷ [])) ++ rest ≡ countedIn bs ++ (counted b ++ rest)
-  one-block [] b rest = ap (λ (l : List ℕ). l ++ rest) (append-nil (counted b))
-  one-block (c ∷ bs) b rest =
-      append-assoc (counted c) (countedIn (bs ++ (b ∷ []))) rest
-      ∙ ap (λ (l : List ℕ). counted c ++ l) (one-block bs b rest)
-      ∙ sym (append-assoc (counted c) (countedIn bs) (counted b ++ rest))
+  one-block : (bs : List (List ℕ)) (b : List ℕ) (x : A) → allOnto (bs ++ (b ∷ [])) x ≡ allOnto bs (onto b x)
+  one-block [] b x = refl
+  one-block (c ∷ bs) b x = ap (onto c) (one-block bs b x)
 
-all-counted : (bs : List (List ℕ)) → countedIn (λ b. b) bs ≡ joined bs
-all-counted [] = refl
-all-counted (b ∷ bs) = ap (λ (l : List ℕ). b ++ l) (all-counted bs)
+all-counted : (bs : List (List ℕ)) (x : List ℕ) → allOnto (λ b x. b ++ x) bs x ≡ joined bs ++ x
+all-counted [] x = refl
+all-counted (b ∷ bs) x = ap (λ (l : List ℕ). b ++ l) (all-counted bs x) ∙ sym (append-assoc b (joined bs) x)
 
-none-counted : (bs : List (List ℕ)) → countedIn (λ b. []) bs ≡ []
-none-counted [] = refl
-none-counted (b ∷ bs) = none-counted bs
+none-counted : {A : Type 0} (bs : List (List ℕ)) (x : A) → allOnto (λ b x. x) bs x ≡ x
+none-counted [] x = refl
+none-counted (b ∷ bs) x = none-counted bs x
 
--- what is said of a log, from a job that has come to its bytes: of a run that waits or is full, what its text counts for, and then what is
--- said of the bytes that are left
-module _ (k : Task) (said : Job → List ℕ → List ℕ) (counted : List ℕ → List ℕ)
+-- what is said of a log, from a job that has come to its bytes: of a run that waits or is full, what its text makes of what is said of the
+-- bytes that are left
+module _ (k : Task) {A : Type 0} (said : Job → List ℕ → A) (onto : List ℕ → A → A)
     (full : (j : Job) (l rest : List ℕ) (last : Bool) (room : ℕ) → (last ≡ true → rest ≡ []) → let u = runOf (worker k) j l last room in
-    u .next ≡ Full → said j (l ++ rest) ≡ counted (u .text) ++ said (u .state) (drop (u .at) l ++ rest))
+    u .next ≡ Full → said j (l ++ rest) ≡ onto (u .text) (said (u .state) (drop (u .at) l ++ rest)))
     (wait : (j : Job) (l rest : List ℕ) (last : Bool) (room : ℕ) → (last ≡ true → rest ≡ []) → let u = runOf (worker k) j l last room in
-    u .next ≡ Wait → said j (l ++ rest) ≡ counted (u .text) ++ said (u .state) (drop (u .at) l ++ rest)) where
+    u .next ≡ Wait → said j (l ++ rest) ≡ onto (u .text) (said (u .state) (drop (u .at) l ++ rest))) where
   module _ (s : State) (buffer : List ℕ) (room : ℕ) where
     -- what the next run sees
     turn-said : {s′ : State} {buffer′ : List ℕ} (went : Went k s buffer room s′ buffer′) (rest : List ℕ) → OpenTo s′ rest
         → (OpenTo s (joined (partIn went) ++ rest))
-        × (said (s .job) (unused (s .window) buffer ++ (joined (partIn went) ++ rest)) ≡ counted (ranOver k s buffer room .text) ++ said (s′ .job) (unused (s′ .window) buffer′ ++ rest))
+        × (said (s .job) (unused (s .window) buffer ++ (joined (partIn went) ++ rest)) ≡ onto (ranOver k s buffer room .text) (said (s′ .job) (unused (s′ .window) buffer′ ++ rest)))
     turn-said (emptied e is same) rest may =
         let may′ = rw is at may in
         (may′, full (s .job) (unused (s .window) buffer) rest (s .window .last) room may′ e ∙ rw (is, same, unused-past (s .window) (ranOver k s buffer room .at) buffer))
@@ -80,15 +79,15 @@ module _ (k : Task) (said : Job → List ℕ → List ℕ) (counted : List ℕ �
         (not-last, wait (s .job) (unused (s .window) buffer) (joined (someOf part) ++ rest) (s .window .last) room not-last e ∙ rw (job-is, bytes-are, joined-some part, append-assoc))
 
   turns-said : {job : Job} {n : ℕ} {parts blocks : List (List ℕ)} {s : State} {buffer : List ℕ} → TurnsDone k job n parts blocks s buffer
-      → (rest : List ℕ) → OpenTo s rest → said job (joined parts ++ rest) ≡ countedIn counted blocks ++ said (s .job) (unused (s .window) buffer ++ rest)
+      → (rest : List ℕ) → OpenTo s rest → said job (joined parts ++ rest) ≡ allOnto onto blocks (said (s .job) (unused (s .window) buffer ++ rest))
   unfolding unused
   turns-said (none buffer) rest may = refl
   turns-said {job} (again {parts = parts} {blocks = blocks} {s = s} {s′ = s′} {buffer = buffer} {buffer′ = buffer′} room done went) rest may =
       let t = turn-said s buffer room went rest may in
       ap (said job) (ap (λ (l : List ℕ). l ++ rest) (joined-append parts (partIn went)) ∙ append-assoc (joined parts) (joined (partIn went)) rest)
       ∙ turns-said done (joined (partIn went) ++ rest) (t .0)
-      ∙ ap (λ (l : List ℕ). countedIn counted blocks ++ l) (t .1)
-      ∙ sym (one-block counted blocks (ranOver k s buffer room .text) (said (s′ .job) (unused (s′ .window) buffer′ ++ rest)))
+      ∙ ap (allOnto onto blocks) (t .1)
+      ∙ sym (one-block onto blocks (ranOver k s buffer room .text) (said (s′ .job) (unused (s′ .window) buffer′ ++ rest)))
 
 -- the state knows whether the end was seen
 none-long : (part : List ℕ) → isNone part ≡ eqb (length part) 0
@@ -115,19 +114,27 @@ module _ {k : Task} {job : Job} {n : ℕ} {parts blocks : List (List ℕ)} {s : 
   -- what was written before is the beginning of the text
   pub written-before : printedFrom (worker k) job (joined parts ++ rest) ≡ joined blocks ++ printedFrom (worker k) (s .job) (left ++ rest)
   written-before =
-      turns-said k (printedFrom (worker k)) (λ b. b)
+      turns-said k (printedFrom (worker k)) (λ b x. b ++ x)
       (λ j l rest last room may e. run-due records-sound (worker k) (works k) l rest last may j room e .0)
       (λ j l rest last room may e. run-due records-sound (worker k) (works k) l rest last may j room e .0)
       done rest may
-      ∙ ap (λ (l : List ℕ). l ++ printedFrom (worker k) (s .job) (left ++ rest)) (all-counted blocks)
+      ∙ all-counted blocks _
 
   stopped-later : printedFrom (stopper (worker k)) job (joined parts ++ rest) ≡ printedFrom (stopper (worker k)) (s .job) (left ++ rest)
   stopped-later =
-      turns-said k (printedFrom (stopper (worker k))) (λ b. [])
+      turns-said k (printedFrom (stopper (worker k))) (λ b x. x)
       (λ j l rest last room may e. run-stops records-sound (worker k) (works k) l rest last may j room e)
       (λ j l rest last room may e. run-stops records-sound (worker k) (works k) l rest last may j room e)
       done rest may
-      ∙ ap (λ (l : List ℕ). l ++ printedFrom (stopper (worker k)) (s .job) (left ++ rest)) (none-counted blocks)
+      ∙ none-counted blocks _
+
+  led-later : ledTo (worker k) job (joined parts ++ rest) ≡ ledTo (worker k) (s .job) (left ++ rest)
+  led-later =
+      turns-said k (ledTo (worker k)) (λ b x. x)
+      (λ j l rest last room may e. run-leads records-sound (worker k) (works k) l rest last may j room e)
+      (λ j l rest last room may e. run-leads records-sound (worker k) (works k) l rest last may j room e)
+      done rest may
+      ∙ none-counted blocks _
 
   module _ (room : ℕ) where
     abbrev text : List ℕ
@@ -152,3 +159,7 @@ module _ {k : Task} {job : Job} {n : ℕ} {parts blocks : List (List ℕ)} {s : 
     -- what stops the last run stops the log
     pub stopped-by : ranOver k s buffer room .next ≡ Stop → printedFrom (stopper (worker k)) job (joined parts ++ rest) ≡ ranOver k s buffer room .refusal ∷ []
     stopped-by e = stopped-later ∙ run-stops records-sound (worker k) (works k) left rest (s .window .last) may (s .job) room e
+
+    -- and it has come to where the log leads
+    pub led-there : ranOver k s buffer room .next ≡ Stop → ledTo (worker k) job (joined parts ++ rest) ≡ ranOver k s buffer room .state
+    led-there e = led-later ∙ run-leads records-sound (worker k) (works k) left rest (s .window .last) may (s .job) room e

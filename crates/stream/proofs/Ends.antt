@@ -16,7 +16,7 @@ use Rattle.stream.specs.declared.State.{State}
 use Rattle.stream.specs.declared.How.{How}
 use Rattle.stream.specs.declared.How.the-variants.{On, Stopped, NotRead, NotWritten}
 use Rattle.stream.specs.Pump.{ranOver, isOn, Went, partIn, TurnedAs, TurnsDone, again, endedAt, LastTurn, PumpedAs}
-use Rattle.stream.proofs.Blocks.{written-before, written-all, written-with}
+use Rattle.stream.proofs.Blocks.{written-before, written-all, written-with, led-there}
 
 -- turns up to a state, whatever parts and blocks they had
 pub record CameTo (k : Task) (job : Job) (n : ℕ) (s : State) (buffer : List ℕ) : Type 0 where
@@ -58,7 +58,11 @@ module _ (k : Task) (job : Job) (n : ℕ) (s : State) (buffer : List ℕ) (room 
 
   pub ends : (how : How) → isOn how ≡ false → TurnedAs k how s buffer room s′ buffer′ → PumpedAs how (printedBy k job) k job (endedAt k how s′)
   ends On e t = let z : _≡_ {A = ℕ} 0 1 = cc in absurd (omega arith)
-  ends (Stopped refusal) e t = record { last = last-turn (Stopped refusal) t; text = λ rest may. written-all (came .done) rest may room (t .0) ∙ printed-by k job _ }
+  ends (Stopped refusal) e t = record {
+    last = last-turn (Stopped refusal) t;
+    text = λ rest may. written-all (came .done) rest may room (t .0) ∙ printed-by k job _;
+    led = λ rest may. ap (λ (x : State). x .job) (t .2) ∙ sym (led-there (came .done) rest may room (t .0));
+  }
   ends NotRead e t = record {
     last = last-turn NotRead t;
     left = drop (ranOver k s buffer room .at) (unused (s .window) buffer);

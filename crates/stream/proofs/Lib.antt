@@ -1,4 +1,5 @@
 pub mod Turns
+pub mod Leads
 pub mod Blocks
 pub mod Ends
 pub mod OneOutcome

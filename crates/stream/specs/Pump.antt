@@ -16,6 +16,7 @@ use Rattle.jobs.specs.declared.Ran.{Ran}
 use Rattle.jobs.specs.declared.Task.{Task}
 use Rattle.window.specs.Window.{start, Within, unused, past, atFront, HasRoom, Refilled}
 use Rattle.window.specs.declared.Window.{Window}
+use Rattle.stream.specs.Led.{ledTo}
 use Rattle.stream.specs.declared.State.{State}
 use Rattle.stream.specs.declared.Ended.{Ended}
 use Rattle.stream.specs.declared.How.{How}
@@ -176,10 +177,12 @@ wholeBlocks NotWritten l = l .blocks
 
 -- printed is what is printed of a log
 module _ (printed : List ℕ → List ℕ) (k : Task) (job : Job) where
-  -- the log stopped: the blocks are, joined, what is printed of the parts, joined; and what may stand behind those changes nothing
+  -- the log stopped: the blocks are, joined, what is printed of the parts, joined, and the job that is handed back is the one to which they
+  -- lead; what may stand behind them changes nothing
   pub record StoppedLog (refusal : ℕ) (ended : Ended) : Type 0 where
     pub last : LastTurn k job (Stopped refusal) ended
     pub text : (rest : List ℕ) → MayFollow (last .done) rest → joined (allBlocks last) ≡ printed (joined (last .parts) ++ rest)
+    pub led : (rest : List ℕ) → MayFollow (last .done) rest → ended .job ≡ ledTo (worker k) job (joined (last .parts) ++ rest)
 
   -- a call failed: what is printed of the parts, with what may stand behind them, is the blocks that were written whole, joined, and then
   -- what the job that is handed back prints of the bytes which it has not come to
