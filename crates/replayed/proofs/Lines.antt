@@ -20,14 +20,14 @@ use Rattle.events.specs.Event.{Event, happens}
 use Rattle.events.specs.Run.{after}
 use Rattle.text.specs.Text.{pinsLine}
 use Rattle.follow.specs.Whole.{joined, textOf, textOfLog, printedFrom}
-use Rattle.follow.proofs.Whole.{joined-append}
+use Rattle.follow.proofs.Whole.{joined-append, joined-last}
 use Rattle.playback.specs.Replay.{start, at, lineAs, stopText, textOn, nextOn, replayer, printed}
 use Rattle.playback.specs.declared.Replay.{Replay}
 use Rattle.recorded.specs.Recorded.{Recorded, recordOf, eventsOf, recordsBehind, historyOf}
 use Rattle.recorded.proofs.Recorded.{at-own}
 use Rattle.replayed.specs.Lines.{lettersIf, lineText, givenBy, recordLine, recordLines, stopLines, lastLine, linesIn}
 use Rattle.replayed.specs.Replayed.{StandsIn, lineBehind, Replayed}
-use Rattle.replayed.proofs.Text.{line-is, last-is, joined-last, refused-is}
+use Rattle.replayed.proofs.Text.{line-is, last-is, refused-is}
 
 module _ (pins : Bool) where
   -- ---- texts

@@ -1,4 +1,4 @@
--- The replay's lines, letter by letter, and lines one behind the other.
+-- The replay's lines, letter by letter.
 -- Assumes nothing.
 use Prim.Native.Nat.{ℕ}
 use mathlib.Core.Bool.{Bool, true, false}
@@ -12,7 +12,6 @@ use Rattle.interrupts.specs.declared.Level.the-variants.{Low, High, Released}
 use Rattle.interrupts.specs.declared.Pins.{Pins}
 use Rattle.text.specs.Text.{ascii, decimal, space, newline, behindSpace, front, line, lineWithPins, letters, pinsLine}
 use Rattle.follow.specs.Whole.{joined}
-use Rattle.follow.proofs.Whole.{joined-append}
 use Rattle.playback.specs.Replay.{lineAs}
 use Rattle.replayed.specs.Lines.{twoLetters, lettersIf, bytesText, lineText, lastLine}
 
@@ -50,10 +49,6 @@ line-is true n answer bytes es =
     let p = pinsOf (after es) in
     front-is n answer bytes (letters p) ∙ ap (λ (t : List ℕ). decimal n ++ (space ∷ (decimal answer ++ (bytesText bytes ++ t)))) (letters-are p)
 line-is false n answer bytes es = front-is n answer bytes (newline ∷ [])
-
--- ---- lines one behind the other
-pub joined-last : (a : List (List ℕ)) (l : List ℕ) → joined (a ++ (l ∷ [])) ≡ joined a ++ l
-joined-last a l = joined-append a (l ∷ []) ∙ ap (λ (t : List ℕ). joined a ++ t) (append-nil l)
 
 -- a refusal's line, and the last line
 pub refused-is : (pins : Bool) (es : List Event) (n refusal : ℕ)
