@@ -15,10 +15,9 @@ use Rattle.spelling.specs.Spelling.{spaced, gText, modeText, doubtText, countTe
 use Rattle.spelling.proofs.Spelling.{stretch-spelt, in-force-spelt}
 use Rattle.recorded.specs.Recorded.{Recorded, eventsOf, historyOf}
 use Rattle.paper.specs.Stored.{byteBy}
-use Rattle.stretches.specs.Histories.{accountOf, Stretch, Between, Each}
+use Rattle.stretches.specs.Histories.{accountOf, Stretch, Each}
 use Rattle.stretches.proofs.Ranges.{range-known}
 use Rattle.told.specs.Plain.{printedStretches, seenAt, lineOf}
-use Rattle.told.proofs.Stretches.{all-of-lead}
 use Rattle.ranges.specs.Ranges.{MeansG}
 use Rattle.ranges.proofs.Ranges.{range-means, known-some}
 use Rattle.answered.specs.Answered.{codeBy, SaysRange, ThirdColumn, ToldRange, AnsweredRanges}
@@ -83,15 +82,12 @@ third-column moded s = go moded
     go false = with-more false [] (stretch-spelt from to seen (s .why) .plain)
 
 -- ---- any records
-lines-between : (moded : Bool) (ss : List Stretch) (h k : List Recorded) → Between h ss k → Each (ThirdColumn moded) ss
-lines-between moded [] h k b = tt
-lines-between moded (s ∷ ss) h k b = (third-column moded s, lines-between moded ss h (s .from) (b .2))
+each-column : (moded : Bool) (ss : List Stretch) → Each (ThirdColumn moded) ss
+each-column moded [] = tt
+each-column moded (s ∷ ss) = (third-column moded s, each-column moded ss)
 
 pub answered-ranges : (rs : List Recorded) → AnsweredRanges rs
-answered-ranges rs = record {
-  lines = λ moded. lines-between moded (printedStretches rs) [] rs (all-of-lead rs);
-  words = λ earlier part. told-range earlier;
-}
+answered-ranges rs = record { lines = λ moded. each-column moded (printedStretches rs); words = λ earlier part. told-range earlier }
 
 -- ---- any log
 -- of the records that the answer's text is about (told/specs/Histories: told)
