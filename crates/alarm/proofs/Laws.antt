@@ -1,13 +1,13 @@
 -- What holds of an alarm however it is used. Assumes nothing.
 use Prim.Native.Nat.{ℕ, _+_, _-_, _/_, _%_, _^_, _<_, _≤_}
-use mathlib.Core.Bool.{Bool, true, false, not}
+use mathlib.Core.Bool.{Bool, true, false}
 use mathlib.Core.Path.{_≡_, refl, ap, _∙_}
 use native.Mathlib.Omega.{arith}
-use borrow.Author.Tests.{eqb-true, eq-eqb, ne-eqb, le-leb, lt-leb, lt-ltb, le-ltb, ltb-true, ltb-false}
+use borrow.Author.Tests.{eq-eqb, ne-eqb, le-leb, lt-leb, lt-ltb, le-ltb, ltb-true, ltb-false}
 use lib.Dec.{eqb, ltb}
-use Rattle.laws.specs.Choice.{pick, either}
+use Rattle.laws.specs.Choice.{pick}
 use Rattle.laws.specs.Bits.{bit, worth}
-use Rattle.alarm.specs.Alarm.{off, raised, cleared, isRunning, waited, lapseOf, marksOf, isAxisMark, Marked}
+use Rattle.alarm.specs.Alarm.{raised, cleared, isRunning, waited, lapseOf, marksOf}
 use Rattle.alarm.specs.declared.Alarm.{Alarm}
 use Rattle.alarm.specs.declared.Lapse.{Lapse}
 use Rattle.alarm.specs.declared.Lapse.the-variants.{Stands, Expires}
@@ -74,48 +74,6 @@ none-passes a = go (ltb 0 (a .remaining)) refl
     go : (t : Bool) → ltb 0 (a .remaining) ≡ t → lapseOf 0 a ≡ Stands a
     go true h = let p = ltb-true 0 (a .remaining) h in stands 0 a p ∙ ap (λ left. Stands (remains a left)) (omega arith)
     go false h = let p = ltb-false 0 (a .remaining) h in idle 0 a (omega arith)
-
--- ---- marks that come and go with the status
-pub off-marked : Marked off
-off-marked = refl
-
-pub cleared-marked : (a : Alarm) → Marked (cleared a)
-cleared-marked a = refl
-
-pub raised-marked : (mark : ℕ) (negative : Bool) (hold : ℕ) (a : Alarm) → isAxisMark mark ≡ true → Marked a → Marked (raised mark negative hold a)
-raised-marked mark negative hold a m h = go (a .status)
-  where
-    go : (b : Bool) → Marked (pick b a (record { status = true; mark = mark; negative = negative; remaining = hold }))
-    go true = h
-    go false = m
-
-axis-size : (mark : ℕ) → isAxisMark mark ≡ true → (0 < mark) × (mark < 8)
-axis-size mark = go (eqb mark 1) refl (eqb mark 2) refl (eqb mark 4) refl
-  where
-    near : (n : ℕ) → eqb mark n ≡ true → 0 < n → n < 8 → (0 < mark) × (mark < 8)
-    near n e p q = let m = eqb-true mark n e in (omega arith, omega arith)
-
-    go : (x : Bool) → eqb mark 1 ≡ x → (y : Bool) → eqb mark 2 ≡ y → (z : Bool) → eqb mark 4 ≡ z → either x (either y (either z false)) ≡ true
-        → (0 < mark) × (mark < 8)
-    go true e y f z g h = near 1 e (omega arith) (omega arith)
-    go false e true f z g h = near 2 f (omega arith) (omega arith)
-    go false e false f true g h = near 4 g (omega arith) (omega arith)
-    go false e false f false g h = let n : _≡_ {A = ℕ} 0 1 = cc in absurd (omega arith)
-
--- no axis is marked exactly while the status is not set
-pub marked-none : (a : Alarm) → Marked a → eqb (a .mark) 0 ≡ not (a .status)
-marked-none a = go (a .status)
-  where
-    go : (b : Bool) → pick b (isAxisMark (a .mark)) (eqb (a .mark) 0) ≡ true → eqb (a .mark) 0 ≡ not b
-    go true h = let s = axis-size (a .mark) h .0 in ne-eqb (a .mark) 0 (omega arith)
-    go false h = h
-
-pub marked-small : (a : Alarm) → Marked a → a .mark < 8
-marked-small a = go (a .status)
-  where
-    go : (b : Bool) → pick b (isAxisMark (a .mark)) (eqb (a .mark) 0) ≡ true → a .mark < 8
-    go true h = axis-size (a .mark) h .1
-    go false h = let m = eqb-true (a .mark) 0 h in omega arith
 
 -- ---- the byte that shows them
 pub marks-apart : (a : Alarm) → a .mark < 8 → (bit 3 (marksOf a) ≡ a .negative) × (marksOf a % 8 ≡ a .mark) × (marksOf a < 16)

@@ -1,12 +1,9 @@
 -- 01, "Interrupts and pins", and Q-4: a detector's status, its marks, its sign, and the time for which the status is still held.
 use Prim.Native.Nat.{ℕ, _+_, _-_, _%_}
 use mathlib.Core.Bool.{Bool, true, false}
-use mathlib.Core.List.{[], _∷_}
-use mathlib.Core.Path.{_≡_}
-use lib.Dec.{eqb, ltb, leb}
+use lib.Dec.{ltb, leb}
 use Rattle.laws.specs.Choice.{pick, both}
 use Rattle.laws.specs.Bits.{worth}
-use Rattle.laws.specs.Lists.{isIn}
 use Rattle.alarm.specs.declared.Alarm.{Alarm}
 use Rattle.alarm.specs.declared.Lapse.{Lapse}
 use Rattle.alarm.specs.declared.Lapse.the-variants.{Stands, Expires}
@@ -42,11 +39,3 @@ lapseOf us a = pick (expires us a) (Expires (us - a .remaining)) (Stands (waited
 -- the byte that shows them: the mark in bits 2:0, the sign in bit 3
 abbrev pub marksOf : Alarm → ℕ
 marksOf a = a .mark % 8 + worth 8 (a .negative)
-
--- x, y or z, as an axis is marked
-abbrev pub isAxisMark : ℕ → Bool
-isAxisMark mark = isIn (1 ∷ 2 ∷ 4 ∷ []) mark
-
--- one axis is marked while the status is set, and none while it is not: "The marks clear with the status"
-abbrev pub Marked : Alarm → Type 0
-Marked a = pick (a .status) (isAxisMark (a .mark)) (eqb (a .mark) 0) ≡ true

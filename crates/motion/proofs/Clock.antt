@@ -1,11 +1,8 @@
 -- Q-4, of any detector record: "Two clock events in a row equal one of their sum", also where the status expires in one of them and the rest
 -- of it goes on: alarm/proofs/Course, of runs that no clock lengthens. Assumes nothing.
 use Prim.Native.Nat.{ℕ, _+_, _-_, _<_, _≤_}
-use mathlib.Core.Bool.{Bool, true, false}
 use mathlib.Core.Path.{_≡_, refl, sym, ap, _∙_}
-use borrow.Author.Tests.{eqb-true, eqb-false, ltb-true, ltb-false}
-use lib.Dec.{eqb, ltb}
-use Rattle.alarm.specs.Alarm.{Marked, waited, lapseOf}
+use Rattle.alarm.specs.Alarm.{waited, lapseOf}
 use Rattle.alarm.specs.Course as course
 use Rattle.alarm.specs.Course.{Course, Adds, Detector}
 use Rattle.alarm.specs.declared.Lapse.{Lapse}
@@ -15,7 +12,6 @@ use Rattle.slopes.specs.Runs.{noRuns}
 use Rattle.slopes.specs.declared.Runs.{Runs}
 use Rattle.motion.specs.Detector.{restarted, afterLapse, clocked}
 use Rattle.motion.specs.declared.Motion.{Motion}
-use Rattle.motion.proofs.Laws.{marked-restart}
 
 -- runs of points: they begin with none, and no clock lengthens them
 abbrev pub byPoints : Course
@@ -67,12 +63,3 @@ clocked-sum a b m =
 pub goes-on : (us : ℕ) (m : Motion) → ¬ (m .alarm .remaining ≡ 0) → m .alarm .remaining ≤ us → clocked us m ≡ clocked (us - m .alarm .remaining) (restarted m)
 unfolding restarted
 goes-on us m h k = clocked-reached m us h k ∙ sym (clocked-idle (restarted m) (us - m .alarm .remaining) refl)
-
--- "The marks clear with the status"
-pub marked-clock : (us : ℕ) (m : Motion) → Marked (m .alarm) → Marked (clocked us m .alarm)
-marked-clock us m h = go (eqb (m .alarm .remaining) 0) refl (ltb us (m .alarm .remaining)) refl
-  where
-    go : (t : Bool) → eqb (m .alarm .remaining) 0 ≡ t → (s : Bool) → ltb us (m .alarm .remaining) ≡ s → Marked (clocked us m .alarm)
-    go true e s f = rw (clocked-idle m us (eqb-true (m .alarm .remaining) 0 e)) h
-    go false e true f = rw (clocked-stands m us (ltb-true us (m .alarm .remaining) f)) h
-    go false e false f = rw (clocked-reached m us (eqb-false (m .alarm .remaining) 0 e) (ltb-false us (m .alarm .remaining) f)) (marked-restart m)

@@ -5,16 +5,16 @@ use mathlib.Core.Path.{_≡_, refl}
 use Prim.Native.Nat.{ℕ}
 use lib.Dec.{leb}
 use Rattle.laws.specs.Choice.{pick, both, either}
-use Rattle.alarm.specs.Alarm.{raised, cleared, isAxisMark, Marked}
+use Rattle.alarm.specs.Alarm.{raised, cleared}
 use Rattle.alarm.specs.declared.Alarm.{Alarm}
-use Rattle.alarm.proofs.Laws.{raised-status, raised-marked, cleared-marked}
-use Rattle.slopes.specs.Point.{overOn, noAxis, firstOver, pointOf}
+use Rattle.alarm.proofs.Laws.{raised-status}
+use Rattle.slopes.specs.Point.{noAxis, firstOver, pointOf}
 use Rattle.slopes.specs.Runs.{noRuns, overRun, calmRun, runsAfter}
 use Rattle.slopes.specs.declared.Slopes.{Slopes}
 use Rattle.slopes.specs.declared.Point.{Point}
 use Rattle.slopes.specs.declared.Point.the-variants.{None, Calm, Over}
 use Rattle.slopes.proofs.InRow.{overs-reached, calms-reached}
-use Rattle.motion.specs.Detector.{quiet, pointsNeeded, afterOver, afterCalm, afterPoint, afterSample, restarted, overOrCalm, alarmBy, afterPoints}
+use Rattle.motion.specs.Detector.{pointsNeeded, afterOver, afterCalm, afterPoint, afterSample, restarted, overOrCalm, alarmBy, afterPoints}
 use Rattle.motion.specs.declared.Motion.{Motion}
 use Rattle.motion.specs.declared.Settings.{Settings}
 
@@ -41,49 +41,6 @@ calm-status n unlatched m = go (both unlatched (leb n (calmRun n (m .runs) .calm
 pub restart-status : (m : Motion) → restarted m .alarm .status ≡ false
 unfolding restarted
 restart-status m = refl
-
--- ---- the marks
--- a point marks x, y or z
-abbrev Named : Point → Type 0
-Named None = Unit
-Named Calm = Unit
-Named (Over axis falling) = isAxisMark axis ≡ true
-
-named : (axes threshold : ℕ) (s : Slopes) → Named (pointOf axes threshold s)
-unfolding pointOf firstOver
-named axes threshold s = go (either (not (s .known)) (noAxis axes)) (overOn 0 axes threshold (s .x)) (overOn 1 axes threshold (s .y)) (overOn 2 axes threshold (s .z))
-  where
-    go : (n x y z : Bool) → Named (pick n None (pick x (Over 1 (s .x .falling)) (pick y (Over 2 (s .y .falling)) (pick z (Over 4 (s .z .falling)) Calm))))
-    go true x y z = tt
-    go false true y z = refl
-    go false false true z = refl
-    go false false false true = refl
-    go false false false false = tt
-
-marked-either : (b : Bool) (a a′ : Alarm) → Marked a → Marked a′ → Marked (pick b a a′)
-marked-either true a a′ p q = p
-marked-either false a a′ p q = q
-
-marked-point : (s : Settings) (p : Point) (m : Motion) → Named p → Marked (m .alarm) → Marked (afterPoint s p m .alarm)
-unfolding afterOver afterCalm
-marked-point s None m n h = h
-marked-point s Calm m n h =
-    let clears : Bool = both (s .unlatched) (leb (pointsNeeded s) (calmRun (pointsNeeded s) (m .runs) .calm)) in
-    marked-either clears (cleared (m .alarm)) (m .alarm) (cleared-marked (m .alarm)) h
-marked-point s (Over axis falling) m n h =
-    let sets : Bool = leb (pointsNeeded s) (overRun (pointsNeeded s) (m .runs) .over) in
-    marked-either sets (raised axis falling (s .hold) (m .alarm)) (m .alarm) (raised-marked axis falling (s .hold) (m .alarm) n h) h
-
-pub marked-quiet : Marked (quiet .alarm)
-marked-quiet = refl
-
-pub marked-restart : (m : Motion) → Marked (restarted m .alarm)
-unfolding restarted
-marked-restart m = cleared-marked (m .alarm)
-
-pub marked-sample : (s : Settings) (slopes : Slopes) (m : Motion) → Marked (m .alarm) → Marked (afterSample s slopes m .alarm)
-unfolding afterSample
-marked-sample s slopes m h = marked-point s (pointOf (s .axes) (s .threshold) slopes) m (named (s .axes) (s .threshold) slopes) h
 
 -- ---- "nor does any sample while no axis is enabled" give a point: such a sample changes nothing
 pub no-axis : (s : Settings) (slopes : Slopes) (m : Motion) → noAxis (s .axes) ≡ true → afterSample s slopes m ≡ m
