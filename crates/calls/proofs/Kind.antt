@@ -13,11 +13,10 @@ use Rattle.laws.specs.Choice.{pick}
 use Rattle.laws.specs.Lists.{isIn}
 use Rattle.laws.proofs.Finite.{picked}
 use Rattle.device.specs.Parts.{coreOf, registersOf, framesOf}
-use Rattle.device.specs.Device.{reg}
 use Rattle.device.specs.declared.Device.{Device}
 use Rattle.events.specs.Event.{Event, powerUp, write, read, sample, cycle, clock, gives}
 use Rattle.outcomes.specs.Numbers.{answersTo}
-use Rattle.outcomes.specs.Demand1.{Due, Askable}
+use Rattle.outcomes.specs.Demand1.{DueOn, Askable}
 use Rattle.outcomes.proofs.Demand1.{demand1}
 use Rattle.outcomes.proofs.Refusals.{event-unchanged, read-unchanged, nothing-else}
 use Rattle.outcomes.proofs.Words.{no}
@@ -115,7 +114,7 @@ module _ (c : Handed) where
       picked AskableIf (eqb (c .kind) 1) tt
       (picked AskableIf (eqb (c .kind) 2) refl (picked AskableIf (eqb (c .kind) 3) tt (picked AskableIf (eqb (c .kind) 4) tt (picked AskableIf (eqb (c .kind) 5) tt tt))))
 
-  exactly : (d : Device) (e : Event) → eventFor c ≡ some e → {number : ℕ} → number ≡ stepOf d (eventFor c) .number → (n : ℕ) → (number ≡ n) ↔ Due (reg d) e n
+  exactly : (d : Device) (e : Event) → eventFor c ≡ some e → {number : ℕ} → number ≡ stepOf d (eventFor c) .number → (n : ℕ) → (number ≡ n) ↔ DueOn d e n
   exactly d e is p = rw (p, is) (demand1 .event d e (c .buffer) (subst AskableIf is askable) .exactly)
 
 -- ---- so of one call

@@ -26,7 +26,7 @@ use Rattle.demand3.specs.Demand.{fates}
 use Rattle.history.specs.History.{accelerometer, twin, Demand3Here}
 use Rattle.rules.specs.Bursts.{isBurst}
 use Rattle.rules.specs.Rules.{ruledFrom}
-use Rattle.outcomes.specs.Demand1.{Due, Tabled}
+use Rattle.outcomes.specs.Demand1.{DueOn, Tabled}
 use Rattle.demand2.specs.Demand2.{Demand2, elsewhere}
 use Rattle.demand2.specs.Watermark.{Watermark}
 use Rattle.twin.specs.Entry.{deviceIn, asked, stepOf, lentAt, pinsCode}
@@ -129,7 +129,7 @@ pub record OneCall (h : Harness) (c : Handed) (s : Seen) (h′ : Harness) : Type
   -- 8, "record length or kind wrong": of any kind but 1 to 5, and of these never. So nothing changes then
   pub no-kind : (s .number ≡ 8) ↔ (¬ ((1 ≤ c .kind) × (c .kind ≤ 5)))
   -- demand 1: where an event is asked for, each of its numbers is given exactly when 01 says
-  pub tabled : (e : Event) → eventFor c ≡ some e → Tabled (Harness × List ℕ) (Due (device.reg (deviceIn h)) e) (s .number) (h, c .buffer) (h′, s .buffer)
+  pub tabled : (e : Event) → eventFor c ≡ some e → Tabled (Harness × List ℕ) (DueOn (deviceIn h) e) (s .number) (h, c .buffer) (h′, s .buffer)
 
 -- ---- power-up and then any calls, whatever the record held before: what was seen, and the record at the end
 pub record Served (cs : List Call) (ss : List Seen) (end : Harness) : Type 0 where

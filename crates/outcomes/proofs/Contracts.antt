@@ -17,7 +17,6 @@ use Rattle.laws.specs.Outcome.{Claim, promised}
 use Rattle.registers.specs.Answers.{number}
 use Rattle.device.specs.Parts.{whole, answeredWhole}
 use Rattle.device.specs.declared.Answered.{Answered}
-use Rattle.device.specs.Device.{reg}
 use Rattle.device.specs.declared.Device.{Device}
 use Rattle.events.specs.Event.{Event, write, read, sample, cycle, clock, happens, lentBy}
 use Rattle.entries.specs.Entries.{eventInto}
@@ -57,7 +56,7 @@ use Rattle.logreader.proofs.read_entry as read-entry
 use Rattle.logwriter.proofs.write_version as write-version
 use Rattle.logwriter.proofs.write_entry as write-entry
 use Rattle.outcomes.specs.LogNumbers.{NoRoomForVersion, NoRoomForRecord}
-use Rattle.outcomes.specs.Demand1.{_when_else_, done, Due, DueAtStart, DueAtPlace, Tabled, Askable}
+use Rattle.outcomes.specs.Demand1.{_when_else_, done, DueOn, DueAtStart, DueAtPlace, Tabled, Askable}
 use Rattle.outcomes.specs.Promises.{Promises}
 use Rattle.outcomes.proofs.Words.{no}
 use Rattle.outcomes.proofs.LogRefusals.{encode-spelled}
@@ -71,7 +70,7 @@ says {claim = claim} holds = record { claim = claim; asks-nothing = refl; says =
 -- ---- events
 -- an event on a device, with a buffer that is lent: its answer with the device then, and the buffer then
 abbrev Event-tabled : Device → Event → List ℕ → Answered → List ℕ → Type 0
-Event-tabled d e buffer after buffer′ = Tabled (Device × List ℕ) (Due (reg d) e) (number (after .answer)) (d, buffer) (after .device, buffer′)
+Event-tabled d e buffer after buffer′ = Tabled (Device × List ℕ) (DueOn d e) (number (after .answer)) (d, buffer) (after .device, buffer′)
 
 lending : (d : Device) (e : Event) (buffer : List ℕ) → Askable e buffer → {after : Answered} {buffer′ : List ℕ} → after ≡ happens d e → buffer′ ≡ lentBy d e buffer
     → Event-tabled d e buffer after buffer′
@@ -79,7 +78,7 @@ lending d e buffer h p q = rw (p, q) (demand1 .event d e buffer h)
 
 -- one that is lent no buffer
 abbrev Alone-tabled : Device → Event → Answered → Type 0
-Alone-tabled d e after = Tabled Device (Due (reg d) e) (number (after .answer)) d (after .device)
+Alone-tabled d e after = Tabled Device (DueOn d e) (number (after .answer)) d (after .device)
 
 alone : (d : Device) (e : Event) → Askable e [] → {after : Answered} → after ≡ happens d e → lentBy d e [] ≡ [] → Alone-tabled d e after
 alone d e h {after} p q =

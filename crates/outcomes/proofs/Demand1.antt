@@ -36,7 +36,7 @@ use Rattle.benchlog.proofs.Walks.{walked, look-record, none-cases, records-with
 use Rattle.paper.specs.Refused.{isReservedWrite, isDetectorWrite, isPowerModeWrite, isTestOrTrimWrite}
 use Rattle.paper.specs.Samples.{allInside}
 use Rattle.outcomes.specs.LogNumbers.{EmptyLog, NotVersionOne, KindOfLength, WrongRecordLength, BodyCut, RightKind, CutAt, WrongAt, RightAt, spelled}
-use Rattle.outcomes.specs.Demand1.{_when_else_, done, Due, DueAtStart, recordLength, DueAtPlace, DueOfLog, Tabled, Askable, Demand1}
+use Rattle.outcomes.specs.Demand1.{_when_else_, done, Due, DueOn, DueAtStart, recordLength, DueAtPlace, DueOfLog, Tabled, Askable, Demand1}
 use Rattle.outcomes.specs.Demand1.{DueFrom, at-end, at-refusal, behind-record}
 use Rattle.outcomes.proofs.Words.{Means, no, less, equal, and, or, is-false}
 use Rattle.outcomes.proofs.Refusals as refusals
@@ -85,7 +85,7 @@ due-one held (sample x y z temperature) = test-one done-one
 due-one held cycle = done-one
 due-one held (clock us) = done-one
 
-event-due : (d : Device) (e : Event) (buffer : List ℕ) → Askable e buffer → Due (reg d) e (gives d e .number)
+event-due : (d : Device) (e : Event) (buffer : List ℕ) → Askable e buffer → DueOn d e (gives d e .number)
 event-due d powerUp buffer h = refl
 event-due d (write a byte) buffer h =
     tested (less 0x3F a) (refusals.write-1 d a byte .1) (λ at.
@@ -122,7 +122,7 @@ lent-filled d cycle buffer h z = refl
 lent-filled d (clock us) buffer h z = refl
 
 event-tabled : (d : Device) (e : Event) (buffer : List ℕ) → Askable e buffer
-    → Tabled (Device × List ℕ) (Due (reg d) e) (gives d e .number) (d, buffer) (next d e, lentBy d e buffer)
+    → Tabled (Device × List ℕ) (DueOn d e) (gives d e .number) (d, buffer) (next d e, lentBy d e buffer)
 event-tabled d e buffer h = record {
   exactly = exactly (due-one (reg d) e) (event-due d e buffer h);
   unchanged = λ r. let device = refusals.event-unchanged d e r .0 in let lent = lent-unchanged d e buffer h r in λ i. (device i, lent i);

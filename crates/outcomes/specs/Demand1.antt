@@ -44,6 +44,10 @@ Due held (sample x y z temperature) = 4 when SomeOutside x y z else done
 Due held cycle = done
 Due held (clock us) = done
 
+-- the same of a device
+abbrev pub DueOn : Device → Event → ℕ → Type 0
+DueOn d e = Due (reg d) e
+
 -- 7, "log version byte not 1"; 9, "log cut, or empty": what a log begins with
 abbrev pub DueAtStart : List ℕ → ℕ → Type 0
 DueAtStart log = 9 when EmptyLog log else 7 when NotVersionOne log else done
@@ -93,7 +97,7 @@ Askable (clock us) buffer = Unit {0}
 pub record Demand1 : Type 0 where
   -- an event, of any device, also one that no events lead to, and with any buffer: number, device and buffer
   pub event : (d : Device) (e : Event) (buffer : List ℕ) → Askable e buffer
-      → Tabled (Device × List ℕ) (Due (reg d) e) (gives d e .number) (d, buffer) (next d e, lentBy d e buffer)
+      → Tabled (Device × List ℕ) (DueOn d e) (gives d e .number) (d, buffer) (next d e, lentBy d e buffer)
   -- a refused event gives no bytes. One that is done leaves in the buffer, where it is a read, the bytes that it gives
   pub no-bytes : (d : Device) (e : Event) → gives d e .number ≢ 0 → gives d e .bytes ≡ []
   pub filled : (d : Device) (e : Event) (buffer : List ℕ) → Askable e buffer → gives d e .number ≡ 0

@@ -62,5 +62,6 @@ module _ (pins : Bool) (log : List ℕ) where
     ruled = λ later rs h. demand2 (eventsOf rs);
     watermark = λ later rs h. watermark (eventsOf rs);
     below = λ later rs r a n h own burst. line-of pins log later rs r h ∙ given-of r rs own (demand2 (beforeOwn r rs) .below a n burst);
-    frames = λ later rs r n h own some most. line-of pins log later rs r h ∙ given-of r rs own (demand2 (beforeOwn r rs) .frames n some most);
+    frames = λ later rs r n h own some most.
+        let ruled = demand2 (beforeOwn r rs) in line-of pins log later rs r h ∙ given-of r rs own (ruled .frames n some most);
   }
