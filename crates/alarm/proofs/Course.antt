@@ -1,13 +1,12 @@
 -- Q-4, of any detector with an alarm whose run adds clocks up: "Two clock events in a row equal one of their sum". Assumes nothing.
 use Prim.Native.Nat.{ℕ, _+_, _-_, _<_, _≤_}
 use mathlib.Core.Bool.{Bool, true, false}
-use mathlib.Core.Path.{_≡_, refl, sym, ap, _∙_}
+use mathlib.Core.Path.{_≡_, refl, sym, _∙_}
 use native.Mathlib.Omega.{arith}
 use borrow.Author.Tests.{eqb-true, eqb-false, ltb-true, ltb-false}
 use lib.Dec.{eqb, ltb}
 use Rattle.alarm.specs.Alarm.{waited, cleared}
-use Rattle.alarm.specs.Course.{Course, Adds, Detector, begunAnew, clocked}
-use Rattle.alarm.specs.declared.Alarm.{Alarm}
+use Rattle.alarm.specs.Course.{Course, Adds, Detector, clocked}
 use Rattle.alarm.proofs.Laws.{idle, stands, time-reached, none-passes}
 
 module _ (c : Course) (d : Detector (c .Run)) where

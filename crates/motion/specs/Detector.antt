@@ -1,16 +1,14 @@
 -- 01, "Interrupts and pins": the any-motion detector, which is runs of points and an alarm.
 use Prim.Native.Nat.{ℕ, _+_, _%_}
-use mathlib.Core.Bool.{Bool, true, false}
-use mathlib.Core.List.{List, [], _∷_}
+use mathlib.Core.Bool.{Bool}
 use lib.Dec.{leb}
 use Rattle.laws.specs.Choice.{pick, both}
 use Rattle.alarm.specs.Alarm.{off, raised, cleared, lapseOf}
 use Rattle.slopes.specs.Point.{pointOf}
-use Rattle.slopes.specs.Runs.{noRuns, overRun, calmRun, oversInRow, calmsInRow}
+use Rattle.slopes.specs.Runs.{noRuns, overRun, calmRun}
 use Rattle.slopes.specs.declared.Slopes.{Slopes}
 use Rattle.slopes.specs.declared.Point.{Point}
 use Rattle.slopes.specs.declared.Point.the-variants.{None, Calm, Over}
-use Rattle.alarm.specs.declared.Alarm.{Alarm}
 use Rattle.alarm.specs.declared.Lapse.{Lapse}
 use Rattle.alarm.specs.declared.Lapse.the-variants.{Stands, Expires}
 use Rattle.motion.specs.declared.Motion.{Motion}
@@ -58,24 +56,3 @@ afterLapse (Expires rest) m = restarted m
 
 unfoldable pub clocked : ℕ → Motion → Motion
 clocked us m = afterLapse (lapseOf us (m .alarm)) m
-
--- ---- the alarm from the points alone, the newest first, with no runs
--- true for an over point, false for a calm one; no point counts nothing
-abbrev pub overOrCalm : List Point → List Bool
-overOrCalm [] = []
-overOrCalm (None ∷ ps) = overOrCalm ps
-overOrCalm (Calm ∷ ps) = false ∷ overOrCalm ps
-overOrCalm (Over axis falling ∷ ps) = true ∷ overOrCalm ps
-
--- a, before them, and then "N over points in a row set it .. Non-latched, N calm points in a row clear it"
-abbrev pub alarmBy : Settings → List Point → Alarm → Alarm
-alarmBy s [] a = a
-alarmBy s (None ∷ ps) a = alarmBy s ps a
-alarmBy s (Calm ∷ ps) a =
-    pick (both (s .unlatched) (leb (pointsNeeded s) (calmsInRow (false ∷ overOrCalm ps)))) (cleared (alarmBy s ps a)) (alarmBy s ps a)
-alarmBy s (Over axis falling ∷ ps) a =
-    pick (leb (pointsNeeded s) (oversInRow (true ∷ overOrCalm ps))) (raised axis falling (s .hold) (alarmBy s ps a)) (alarmBy s ps a)
-
-abbrev pub afterPoints : Settings → List Point → Motion → Motion
-afterPoints s [] m = m
-afterPoints s (p ∷ ps) m = afterPoint s p (afterPoints s ps m)
