@@ -1,6 +1,5 @@
 -- 01, "Register table": what 0x00 to 0x3F store after the events, by the definitions that the contracts of a write cite. In 01's own words, by
--- looking back on the events alone, paper/specs/Stored: byteBy says it, and paper/proofs/Stored: stored-is that both are the same where what is
--- written are bytes.
+-- looking back on the events alone, paper/specs/Stored: byteBy says it, and paper/proofs/Stored: stored-is that both are the same.
 use Prim.Native.Nat.{ℕ}
 use mathlib.Core.List.{List, [], _∷_}
 use lib.ListN.{getD}
