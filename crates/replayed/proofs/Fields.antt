@@ -16,13 +16,14 @@ use Rattle.benchlog.proofs.Local.{head-local}
 use Rattle.entries.specs.Entries.{eventOf}
 use Rattle.events.specs.Event as event
 use Rattle.events.specs.Event.{Event}
+use Rattle.recorded.specs.Recorded.{recordOf, eventsIn}
 use Rattle.replayed.specs.Events.{signedOf, fourOf, IsRecordOf, Fields}
 
 abbrev found-of : Entry → ℕ → Read
 found-of r next = record { found = found.Record r; next = next }
 
 -- bytes that decide, by themselves, are read the same in a log
-is-record : (e : Event) (r : Entry) (bytes : List ℕ) → decided bytes ≡ true → ((place : ℕ) → readHead place bytes ≡ found-of r (place + length bytes)) → eventOf r ≡ e
+is-record : (e : Event) (r : Entry) (bytes : List ℕ) → decided bytes ≡ true → ((place : ℕ) → readHead place bytes ≡ found-of r (place + length bytes)) → eventsIn (recordOf r) ≡ e ∷ []
     → IsRecordOf e bytes
 is-record e r bytes known reads is = record {
   entry = r;

@@ -9,16 +9,17 @@ use mir.Val.{toZ}
 use Rattle.benchlog.specs.Reader.{readAt}
 use Rattle.benchlog.specs.declared.Entry.{Entry}
 use Rattle.benchlog.specs.declared.Found.the-variants as found
-use Rattle.entries.specs.Entries.{eventOf}
 use Rattle.events.specs.Event as event
 use Rattle.events.specs.Event.{Event}
+use Rattle.recorded.specs.Recorded.{recordOf, eventsIn}
 
--- where these bytes stand in a log, whatever follows them, a record is read, the next place is behind them, and its event is this
+-- where these bytes stand in a log, whatever follows them, a record is read, the next place is behind them, and it comes to this event and no
+-- other
 pub record IsRecordOf (e : Event) (bytes : List ℕ) : Type 0 where
   pub entry : Entry
   pub reads : (log : List ℕ) (place : ℕ) (rest : List ℕ) → drop place log ≡ bytes ++ rest
       → readAt log place ≡ record { found = found.Record entry; next = place + length bytes }
-  pub event-is : eventOf entry ≡ e
+  pub event-is : eventsIn (recordOf entry) ≡ e ∷ []
 
 -- two bytes "16-bit big-endian signed", and Q-4's four, "big-endian"
 abbrev pub signedOf : ℕ → ℕ → ℤ
