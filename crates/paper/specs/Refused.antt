@@ -10,7 +10,7 @@ use Rattle.laws.specs.Bits.{bit}
 
 -- Of a write a is the address and b the byte; held are the bytes that the addresses hold before it.
 
--- what address k would hold if the write were accepted
+-- what stands at address k with the write: the byte as it comes, before the mask, where the write goes there
 abbrev pub wouldHold : (ℕ → ℕ) → ℕ → ℕ → ℕ → ℕ
 wouldHold held a b k = pick (eqb a k) b (held k)
 
