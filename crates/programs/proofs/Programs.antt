@@ -8,7 +8,7 @@ use mathlib.Core.Path.{_≡_, refl, sym, ap, _∙_}
 use native.Mathlib.Omega.{arith}
 use borrow.Author.Tests.{eqb-true, eqb-false, le-ltb}
 use lib.Dec.{eqb}
-use lib.ListN.{getD, drop}
+use lib.ListN.{drop}
 use Rattle.laws.specs.Choice.{pick}
 use Rattle.benchlog.specs.Reader.{readVersion}
 use Rattle.benchlog.specs.Walk.{walk, behindVersion, walkLog}
@@ -16,7 +16,7 @@ use Rattle.benchlog.specs.Whole.{lookRecord, readLog}
 use Rattle.benchlog.specs.declared.Begins.{Begins}
 use Rattle.benchlog.specs.declared.Begins.the-variants as begins
 use Rattle.benchlog.proofs.Walks.{walked, records-within, none-cases}
-use Rattle.follow.specs.Whole.{printedFrom, stopper}
+use Rattle.follow.specs.Whole.{stopFrom, ledTo}
 use Rattle.follow.proofs.Whole.{log-number}
 use Rattle.text.specs.Text.{decimal, lastDigits}
 use Rattle.playback.specs.Replay as replay
@@ -26,7 +26,6 @@ use Rattle.jobs.specs.Job.{worker, toReplay, toAnswer}
 use Rattle.jobs.specs.declared.Job.{Job}
 use Rattle.jobs.specs.declared.Task.{Task}
 use Rattle.jobs.specs.declared.Task.the-variants as task
-use Rattle.stream.specs.Led.{ledTo}
 use Rattle.stream.specs.Pump.{PumpedAs, statusOf}
 use Rattle.stream.specs.declared.Ended.{Ended}
 use Rattle.stream.specs.declared.How.{How}
@@ -107,8 +106,7 @@ module _ (printed : List ℕ → List ℕ) (k : Task) (job : Job) (off : worker 
     number-is =
         let last = f .stopped .last in
         let by = stopped-by (last .done) (f .rest) (f .may) (last .room) (last .turned .0) in
-        let printed-is = sym (log-number (worker k) log job off) ∙ ap (printedFrom (stopper (worker k)) job) (f .log-is) ∙ by in
-        ap (λ (l : List ℕ). getD l 0 0) printed-is ∙ last .turned .1
+        sym (log-number (worker k) log job off) ∙ ap (stopFrom (worker k) job) (f .log-is) ∙ by ∙ last .turned .1
 
     due : (n : ℕ) → number ≡ n → DueOfLog log n
     due n = demand1 .of-log log n .0

@@ -5,14 +5,13 @@ use mathlib.Core.List.{List, [], _∷_, _++_}
 use mathlib.Core.Logic.{_⊎_, _↔_}
 use mathlib.Core.Path.{_≡_}
 use lib.IntN.{pos, negsuc}
-use Rattle.follow.specs.Whole.{joined}
+use Rattle.follow.specs.Whole.{joined, ledTo}
 use Rattle.text.specs.Text.{decimal}
 use Rattle.outcomes.specs.Demand1.{DueOfLog}
 use Rattle.jobs.specs.Job.{worker}
 use Rattle.jobs.specs.declared.Job.{Job}
 use Rattle.jobs.specs.declared.Task.{Task}
 use Rattle.window.specs.Given.{gotOf}
-use Rattle.stream.specs.Led.{ledTo}
 use Rattle.stream.specs.Pump.{MayFollow, allBlocks, StoppedLog, PumpedAs, statusOf}
 use Rattle.stream.specs.declared.Ended.{Ended}
 use Rattle.stream.specs.declared.How.{How}

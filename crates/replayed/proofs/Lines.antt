@@ -19,7 +19,7 @@ use Rattle.device.specs.Show.{pinsOf}
 use Rattle.events.specs.Event.{Event, happens}
 use Rattle.events.specs.Run.{after}
 use Rattle.text.specs.Text.{pinsLine}
-use Rattle.follow.specs.Whole.{joined, textOf, textOfLog, printedFrom}
+use Rattle.follow.specs.Whole.{joined, saidOf, saidFrom, textOf, textOfLog}
 use Rattle.follow.proofs.Whole.{joined-append, joined-last}
 use Rattle.playback.specs.Replay.{start, at, lineAs, stopText, textOn, nextOn, replayer, printed}
 use Rattle.playback.specs.declared.Replay.{Replay}
@@ -86,7 +86,7 @@ module _ (pins : Bool) where
   lines-read : (es : List Entry) (stop : ℕ) (rs : List Recorded) → suc (length rs + length es) < 2 ^ 64 →
       let h = recordsBehind rs es in
       linesText rs ++ textOf replayer (stateOf rs) es stop ≡ linesText h ++ stopped true stop h
-  unfolding textOf
+  unfolding saidOf
   lines-read [] stop rs room = ap (λ (t : List ℕ). linesText rs ++ t) (stop-next stop rs)
   lines-read (e ∷ es) stop rs room =
       let few : suc (suc (length rs)) < 2 ^ 64 = omega arith in
@@ -97,7 +97,7 @@ module _ (pins : Bool) where
 
 -- ---- the whole log
 pub replay-prints : (pins : Bool) (log : List ℕ) → length log < 2 ^ 64 → printed pins log ≡ joined (linesIn pins log)
-unfolding printedFrom walkLog linesIn historyOf start recordLines after textOf
+unfolding saidFrom walkLog linesIn historyOf start recordLines after saidOf
 replay-prints pins log long = go (readVersion log .begins) (few-records log)
   where
     walked : Walked Entry

@@ -11,11 +11,10 @@ use borrow.Author.Tests.{ne-eqb}
 use lib.Dec.{eqb}
 use lib.ListN.{length, drop}
 use Rattle.follow.specs.Follow.{runOf}
-use Rattle.follow.specs.Whole.{joined, printedFrom, stopper}
+use Rattle.follow.specs.Whole.{joined, printedFrom, stopFrom, ledTo}
 use Rattle.follow.specs.declared.Next.the-variants.{Wait, Full, Stop}
 use Rattle.follow.proofs.Sources.{records-sound}
-use Rattle.follow.proofs.Stream.{waits, run-due}
-use Rattle.follow.proofs.Stops.{run-stops}
+use Rattle.follow.proofs.Stream.{Hearing, heardFrom, run-heard, the-text, the-number, the-state, waits, run-due}
 use Rattle.follow.proofs.Whole.{joined-append}
 use Rattle.jobs.specs.Job.{worker}
 use Rattle.jobs.specs.declared.Job.{Job}
@@ -25,9 +24,7 @@ use Rattle.window.specs.Window.{unused}
 use Rattle.window.specs.declared.Window.{Window}
 use Rattle.window.proofs.Places.{unused-past}
 use Rattle.stream.specs.declared.State.{State}
-use Rattle.stream.specs.Led.{ledTo}
 use Rattle.stream.specs.Pump.{pumpStart, ranOver, ranTo, ReadMore, Went, emptied, refilled, someOf, partIn, isNone, endIn, endSeen, TurnsDone, none, again, MayFollow}
-use Rattle.stream.proofs.Leads.{run-leads}
 
 joined-some : (part : List ℕ) → joined (someOf part) ≡ part
 joined-some [] = refl
@@ -55,28 +52,34 @@ none-counted : {A : Type 0} (bs : List (List ℕ)) (x : A) → allOnto (λ b x. 
 none-counted [] x = refl
 none-counted (b ∷ bs) x = none-counted bs x
 
--- what is said of a log, from a job that has come to its bytes: of a run that waits or is full, what its text makes of what is said of the
--- bytes that are left
-module _ (k : Task) {A : Type 0} (said : Job → List ℕ → A) (onto : List ℕ → A → A)
-    (full : (j : Job) (l rest : List ℕ) (last : Bool) (room : ℕ) → (last ≡ true → rest ≡ []) → let u = runOf (worker k) j l last room in
-    u .next ≡ Full → said j (l ++ rest) ≡ onto (u .text) (said (u .state) (drop (u .at) l ++ rest)))
-    (wait : (j : Job) (l rest : List ℕ) (last : Bool) (room : ℕ) → (last ≡ true → rest ≡ []) → let u = runOf (worker k) j l last room in
-    u .next ≡ Wait → said j (l ++ rest) ≡ onto (u .text) (said (u .state) (drop (u .at) l ++ rest))) where
+-- what is heard of a log, from a job that has come to its bytes
+module _ (k : Task) {A : Type 0} (h : Hearing (worker k) A) where
+  abbrev said : Job → List ℕ → A
+  said = heardFrom (worker k) h
+
+  abbrev onto : List ℕ → A → A
+  onto = h .onto
+
   module _ (s : State) (buffer : List ℕ) (room : ℕ) where
-    -- what the next run sees
+    -- of a run that stops
+    stop-said : (rest : List ℕ) → OpenTo s rest → let u = ranOver k s buffer room in
+        u .next ≡ Stop → said (s .job) (unused (s .window) buffer ++ rest) ≡ h .atStop (u .state) (u .text) (u .refusal)
+    stop-said rest may e = run-heard records-sound (worker k) (works k) h (unused (s .window) buffer) rest (s .window .last) may (s .job) room e
+
+    -- of one that does not, what its text makes of what the next run sees
     turn-said : {s′ : State} {buffer′ : List ℕ} (went : Went k s buffer room s′ buffer′) (rest : List ℕ) → OpenTo s′ rest
         → (OpenTo s (joined (partIn went) ++ rest))
         × (said (s .job) (unused (s .window) buffer ++ (joined (partIn went) ++ rest)) ≡ onto (ranOver k s buffer room .text) (said (s′ .job) (unused (s′ .window) buffer′ ++ rest)))
     turn-said (emptied e is same) rest may =
         let may′ = rw is at may in
-        (may′, full (s .job) (unused (s .window) buffer) rest (s .window .last) room may′ e ∙ rw (is, same, unused-past (s .window) (ranOver k s buffer room .at) buffer))
+        (may′, run-heard records-sound (worker k) (works k) h (unused (s .window) buffer) rest (s .window .last) may′ (s .job) room e .0 ∙ rw (is, same, unused-past (s .window) (ranOver k s buffer room .at) buffer))
     turn-said {s′} {buffer′} (refilled e r) rest may =
         let part = r .1 .part in
         let off = waits records-sound (worker k) (works k) (s .job) (unused (s .window) buffer) (s .window .last) room e .0 in
         let not-last : OpenTo s (joined (someOf part) ++ rest) = λ q. let f = sym q ∙ off in let z : _≡_ {A = ℕ} 0 1 = cc in absurd (omega arith) in
         let job-is : s′ .job ≡ ranOver k s buffer room .state = ap (λ (t : State). t .job) (r .0) in
         let bytes-are : unused (s′ .window) buffer′ ≡ drop (ranOver k s buffer room .at) (unused (s .window) buffer) ++ part = r .1 .bytes ∙ rw (unused-past (s .window) (ranOver k s buffer room .at) buffer) in
-        (not-last, wait (s .job) (unused (s .window) buffer) (joined (someOf part) ++ rest) (s .window .last) room not-last e ∙ rw (job-is, bytes-are, joined-some part, append-assoc))
+        (not-last, run-heard records-sound (worker k) (works k) h (unused (s .window) buffer) (joined (someOf part) ++ rest) (s .window .last) not-last (s .job) room e .0 ∙ rw (job-is, bytes-are, joined-some part, append-assoc))
 
   turns-said : {job : Job} {n : ℕ} {parts blocks : List (List ℕ)} {s : State} {buffer : List ℕ} → TurnsDone k job n parts blocks s buffer
       → (rest : List ℕ) → OpenTo s rest → said job (joined parts ++ rest) ≡ allOnto onto blocks (said (s .job) (unused (s .window) buffer ++ rest))
@@ -113,28 +116,7 @@ module _ {k : Task} {job : Job} {n : ℕ} {parts blocks : List (List ℕ)} {s : 
 
   -- what was written before is the beginning of the text
   pub written-before : printedFrom (worker k) job (joined parts ++ rest) ≡ joined blocks ++ printedFrom (worker k) (s .job) (left ++ rest)
-  written-before =
-      turns-said k (printedFrom (worker k)) (λ b x. b ++ x)
-      (λ j l rest last room may e. run-due records-sound (worker k) (works k) l rest last may j room e .0)
-      (λ j l rest last room may e. run-due records-sound (worker k) (works k) l rest last may j room e .0)
-      done rest may
-      ∙ all-counted blocks _
-
-  stopped-later : printedFrom (stopper (worker k)) job (joined parts ++ rest) ≡ printedFrom (stopper (worker k)) (s .job) (left ++ rest)
-  stopped-later =
-      turns-said k (printedFrom (stopper (worker k))) (λ b x. x)
-      (λ j l rest last room may e. run-stops records-sound (worker k) (works k) l rest last may j room e)
-      (λ j l rest last room may e. run-stops records-sound (worker k) (works k) l rest last may j room e)
-      done rest may
-      ∙ none-counted blocks _
-
-  led-later : ledTo (worker k) job (joined parts ++ rest) ≡ ledTo (worker k) (s .job) (left ++ rest)
-  led-later =
-      turns-said k (ledTo (worker k)) (λ b x. x)
-      (λ j l rest last room may e. run-leads records-sound (worker k) (works k) l rest last may j room e)
-      (λ j l rest last room may e. run-leads records-sound (worker k) (works k) l rest last may j room e)
-      done rest may
-      ∙ none-counted blocks _
+  written-before = turns-said k (the-text (worker k)) done rest may ∙ all-counted blocks _
 
   module _ (room : ℕ) where
     abbrev text : List ℕ
@@ -145,7 +127,7 @@ module _ {k : Task} {job : Job} {n : ℕ} {parts blocks : List (List ℕ)} {s : 
 
     -- with the last block it is the whole of it, where the run stops
     pub written-all : ranOver k s buffer room .next ≡ Stop → joined (blocks ++ (text ∷ [])) ≡ printedFrom (worker k) job (joined parts ++ rest)
-    written-all e = with-last ∙ ap (λ (l : List ℕ). joined blocks ++ l) (sym (run-due records-sound (worker k) (works k) left rest (s .window .last) may (s .job) room e)) ∙ sym written-before
+    written-all e = with-last ∙ ap (λ (l : List ℕ). joined blocks ++ l) (sym (stop-said k (the-text (worker k)) s buffer room rest may e)) ∙ sym written-before
 
     -- and where it waits, a longer beginning
     pub written-with : ranOver k s buffer room .next ≡ Wait
@@ -157,9 +139,9 @@ module _ {k : Task} {job : Job} {n : ℕ} {parts blocks : List (List ℕ)} {s : 
         ∙ ap (λ (l : List ℕ). l ++ printedFrom (worker k) (ranOver k s buffer room .state) (drop (ranOver k s buffer room .at) left ++ rest)) (sym with-last)
 
     -- what stops the last run stops the log
-    pub stopped-by : ranOver k s buffer room .next ≡ Stop → printedFrom (stopper (worker k)) job (joined parts ++ rest) ≡ ranOver k s buffer room .refusal ∷ []
-    stopped-by e = stopped-later ∙ run-stops records-sound (worker k) (works k) left rest (s .window .last) may (s .job) room e
+    pub stopped-by : ranOver k s buffer room .next ≡ Stop → stopFrom (worker k) job (joined parts ++ rest) ≡ ranOver k s buffer room .refusal
+    stopped-by e = turns-said k (the-number (worker k)) done rest may ∙ none-counted blocks _ ∙ stop-said k (the-number (worker k)) s buffer room rest may e
 
     -- and it has come to where the log leads
     pub led-there : ranOver k s buffer room .next ≡ Stop → ledTo (worker k) job (joined parts ++ rest) ≡ ranOver k s buffer room .state
-    led-there e = led-later ∙ run-leads records-sound (worker k) (works k) left rest (s .window .last) may (s .job) room e
+    led-there e = turns-said k (the-state (worker k)) done rest may ∙ none-counted blocks _ ∙ stop-said k (the-state (worker k)) s buffer room rest may e

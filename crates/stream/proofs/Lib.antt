@@ -1,5 +1,4 @@
 pub mod Turns
-pub mod Leads
 pub mod Blocks
 pub mod Ends
 pub mod OneOutcome

@@ -7,7 +7,7 @@ use lib.ListN.{length}
 use lib.Dec.{eqb}
 use Rattle.laws.specs.Choice.{pick}
 use Rattle.follow.specs.Follow.{Turn, runOf}
-use Rattle.follow.specs.Whole.{joined}
+use Rattle.follow.specs.Whole.{joined, ledTo}
 use Rattle.follow.specs.declared.Next.{Next}
 use Rattle.follow.specs.declared.Next.the-variants.{Go, Wait, Full, Stop}
 use Rattle.jobs.specs.Job.{worker, printedBy}
@@ -16,7 +16,6 @@ use Rattle.jobs.specs.declared.Ran.{Ran}
 use Rattle.jobs.specs.declared.Task.{Task}
 use Rattle.window.specs.Window.{start, Within, unused, past, atFront, HasRoom, Refilled}
 use Rattle.window.specs.declared.Window.{Window}
-use Rattle.stream.specs.Led.{ledTo}
 use Rattle.stream.specs.declared.State.{State}
 use Rattle.stream.specs.declared.Ended.{Ended}
 use Rattle.stream.specs.declared.How.{How}

@@ -20,7 +20,7 @@ use Rattle.benchlog.specs.declared.Entry.{Entry}
 use Rattle.benchlog.proofs.Logs.{few-records}
 use Rattle.events.specs.Run.{after}
 use Rattle.recorded.specs.Recorded.{Recorded, recordOf, eventsOf, beforeOwn, answerTo, recordsBehind, historyOf}
-use Rattle.follow.specs.Whole.{textOf, textOfLog, printedFrom}
+use Rattle.follow.specs.Whole.{saidOf, saidFrom, textOf, textOfLog}
 use Rattle.counts.specs.Counts.{ends}
 use Rattle.recorded.proofs.Recorded.{at-own}
 use Rattle.stretches.specs.Histories.{accountOf, whyWith, isEnd, lastEnd}
@@ -105,7 +105,7 @@ wholeOf asked rs stop = toldOf asked rs ++ endOf asked true rs stop
 -- what is told of a history, and then printed of the records behind it, is what is told of all
 pub lines-told : (asked : Asked) (es : List Entry) (stop : ℕ) (rs : List Recorded) → length rs + length es < 2 ^ 64
     → toldOf asked rs ++ textOf answerer (answeringOf asked rs) es stop ≡ wholeOf asked (recordsBehind rs es) stop
-unfolding textOf toldOf
+unfolding saidOf toldOf
 lines-told asked [] stop rs room = refl
 lines-told asked (e ∷ es) stop rs room =
     let few : suc (length rs) < 2 ^ 64 = omega arith in
@@ -126,7 +126,7 @@ ends-with asked stop = rw (no-mark asked, account-first)
 
 -- whatever is asked of a log, what is printed is what the histories say
 pub told-is : (asked : Asked) (log : List ℕ) → length log < 2 ^ 64 → printed asked log ≡ told asked log
-unfolding printedFrom walkLog told historyOf start toldOf textOf
+unfolding saidFrom walkLog told historyOf start toldOf saidOf
 told-is asked log room = go (readVersion log .begins) (few-records log)
   where
     walked : Walked Entry
