@@ -2,16 +2,14 @@
 -- Assumes nothing.
 use Prim.Native.Nat.{ℕ, _/_, _%_, _<_}
 use mathlib.Core.Bool.{Bool, true, false, not}
-use mathlib.Core.List.{List}
+use mathlib.Core.List.{List, [], _∷_}
 use mathlib.Core.Path.{_≡_, refl, sym, ap, _∙_}
 use native.Mathlib.Omega.{arith}
-use lib.Dec.{eqb}
 use lib.Bits.{bitAnd, or-zero-r, and-shr, and-mask}
-use borrow.Author.Tests.{eqb-true}
-use Rattle.laws.specs.Choice.{pick}
+use borrow.Author.Tests.{not-false}
+use Rattle.laws.proofs.Finite.{at-any}
 use Rattle.codes.specs.Mode.{modeOf, isReservedMode}
 use Rattle.codes.specs.Range.{rangeOf, isReservedRange}
-use Rattle.codes.specs.declared.Mode.the-variants.{Bypass, Fifo, Stream, Reserved}
 use Rattle.table.specs.Rows.{theTable}
 use Rattle.registers.proofs.Verdicts.{range-accepted, control-accepted}
 use Rattle.events.specs.Event.{Event}
@@ -20,6 +18,7 @@ use Rattle.paper.specs.Computed.{thePaper}
 use Rattle.paper.specs.Table.{masked}
 use Rattle.paper.specs.Stored.{byteBy, isAccepted}
 use Rattle.paper.proofs.Table.{masked-is}
+use Rattle.paper.proofs.Refused.{reserved-mode}
 use Rattle.paper.proofs.Stored.{accepted-is, always-stored}
 
 -- "0F:03/0F" and "3E:00/C3": the bits of the code are stored
@@ -50,21 +49,15 @@ unfolding rangeOf thePaper
 range-known = always-stored (λ v. isReservedRange (rangeOf v) ≡ false) 0x0F refl range-left
 
 -- ---- the FIFO's mode
-small-mode : (q : ℕ) → isReservedMode (pick (eqb q 0) Bypass (pick (eqb q 1) Fifo (pick (eqb q 2) Stream Reserved))) ≡ false → q < 3
-small-mode q = go (eqb q 0) refl (eqb q 1) refl (eqb q 2) refl
-  where
-    go : (r : Bool) → eqb q 0 ≡ r → (s : Bool) → eqb q 1 ≡ s → (t : Bool) → eqb q 2 ≡ t
-        → isReservedMode (pick r Bypass (pick s Fifo (pick t Stream Reserved))) ≡ false → q < 3
-    go true e s f t g h = omega (arith, eqb-true)
-    go false e true f t g h = omega (arith, eqb-true)
-    go false e false f true g h = omega (arith, eqb-true)
-    go false e false f false g h = let z : _≡_ {A = ℕ} 0 1 = cc in absurd (omega arith)
+known-small : (byte : ℕ) → isReservedMode (modeOf byte) ≡ false → byte / 64 < 3
+known-small byte known =
+    at-any (λ (q : ℕ). q < 3) (0b00 ∷ 0b01 ∷ 0b10 ∷ []) (omega arith, (omega arith, (omega arith, tt))) (byte / 64) (not-false _ (sym (reserved-mode byte) ∙ known))
 
 mode-left : (es : List Event) (byte : ℕ) → isAccepted es 0x3E byte ≡ true → isReservedMode (modeOf (masked 0x3E byte)) ≡ false
 unfolding modeOf
 mode-left es byte ok =
     let known = is-not (isReservedMode (modeOf byte)) (sym (control-accepted (bank es) byte) ∙ accepted-is es 0x3E byte ∙ ok) in
-    let e : byte / 64 % 4 ≡ byte / 64 = omega (arith, small-mode (byte / 64) known) in
+    let e : byte / 64 % 4 ≡ byte / 64 = omega (arith, known-small byte known) in
     rw (mode-stored byte, e) known
 
 pub mode-known : (es : List Event) → isReservedMode (modeOf (byteBy es 0x3E)) ≡ false

@@ -43,7 +43,7 @@ reserved-range : (byte : ℕ) → range.isReservedRange (rangeOf byte) ≡ not (
 unfolding rangeOf
 reserved-range byte = means-other range.isReservedRange _ refl range.ranges (refl, (refl, (refl, (refl, tt)))) (byte % 16)
 
-reserved-mode : (byte : ℕ) → mode.isReservedMode (modeOf byte) ≡ not (isIn (0b00 ∷ 0b01 ∷ 0b10 ∷ []) (byte / 64))
+pub reserved-mode : (byte : ℕ) → mode.isReservedMode (modeOf byte) ≡ not (isIn (0b00 ∷ 0b01 ∷ 0b10 ∷ []) (byte / 64))
 unfolding modeOf
 reserved-mode byte = means-other mode.isReservedMode _ refl mode.modes (refl, (refl, (refl, tt))) (byte / 64)
 
