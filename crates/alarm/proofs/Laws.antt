@@ -5,9 +5,8 @@ use mathlib.Core.Path.{_≡_, refl, ap, _∙_}
 use native.Mathlib.Omega.{arith}
 use borrow.Author.Tests.{eq-eqb, ne-eqb, le-leb, lt-leb, lt-ltb, le-ltb, ltb-true, ltb-false}
 use lib.Dec.{eqb, ltb}
-use Rattle.laws.specs.Choice.{pick}
 use Rattle.laws.specs.Bits.{bit, worth}
-use Rattle.alarm.specs.Alarm.{raised, cleared, isRunning, waited, lapseOf, marksOf}
+use Rattle.alarm.specs.Alarm.{raised, isRunning, waited, lapseOf, marksOf}
 use Rattle.alarm.specs.declared.Alarm.{Alarm}
 use Rattle.alarm.specs.declared.Lapse.{Lapse}
 use Rattle.alarm.specs.declared.Lapse.the-variants.{Stands, Expires}
@@ -19,23 +18,6 @@ raised-set mark negative hold a h = rw h refl
 
 pub raised-clear : (mark : ℕ) (negative : Bool) (hold : ℕ) (a : Alarm) → a .status ≡ false → raised mark negative hold a ≡ record { status = true; mark = mark; negative = negative; remaining = hold }
 raised-clear mark negative hold a h = rw h refl
-
-pub raised-status : (mark : ℕ) (negative : Bool) (hold : ℕ) (a : Alarm) → raised mark negative hold a .status ≡ true
-raised-status mark negative hold a = go (a .status) refl
-  where
-    go : (b : Bool) → a .status ≡ b → pick b a (record { status = true; mark = mark; negative = negative; remaining = hold }) .status ≡ true
-    go true h = h
-    go false h = refl
-
-pub raised-twice : (mark mark′ : ℕ) (negative negative′ : Bool) (hold hold′ : ℕ) (a : Alarm) → raised mark′ negative′ hold′ (raised mark negative hold a) ≡ raised mark negative hold a
-raised-twice mark mark′ negative negative′ hold hold′ a = raised-set mark′ negative′ hold′ (raised mark negative hold a) (raised-status mark negative hold a)
-
-pub cleared-twice : (a : Alarm) → cleared (cleared a) ≡ cleared a
-cleared-twice a = refl
-
--- "bit 3 stays"
-pub cleared-sign : (a : Alarm) → cleared a .negative ≡ a .negative
-cleared-sign a = refl
 
 -- ---- a clock of us microseconds
 -- with this much remaining

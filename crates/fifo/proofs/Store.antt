@@ -20,12 +20,10 @@ use Rattle.fifo.specs.declared.Setting.{Setting}
 use Rattle.fifo.specs.declared.Fifo.{Fifo}
 use Rattle.fifo.specs.Setting.{sizeOf, depthIn, settingOf}
 use Rattle.fifo.specs.Queue.{Queue, framesReached, empty, pushed, without}
-use Rattle.fifo.specs.Ledger.{Event}
 use Rattle.fifo.specs.Flat.{Flat, flat, packed, heldFrames, flatPushed, flatRead, numbersOf}
 use Rattle.fifo.specs.Store.{pushedIn, readIn, bytesIn, countIn, room, noFrames, emptied, statusAt}
 use Rattle.fifo.proofs.Bounds.{Deep, fitting-is, size-bounds, size-space, depth-most, depth-some}
-use Rattle.fifo.proofs.Meaning.{Framed, framed-empty, framed-without, framed-pushed, flat-pushed, flat-read, flat-bytes, flat-held, flat-drop, reached-more, first-taken}
-use Rattle.fifo.proofs.Conserve.{Conserved, conserved}
+use Rattle.fifo.proofs.Meaning.{Framed, framed-empty, framed-without, framed-pushed, flat-pushed, flat-read, flat-bytes, flat-held, flat-drop, reached-more}
 
 -- a queue that the FIFO of such a chip can hold: at most depth frames, each of the bytes of these axes
 pub record Fits (room depth : ℕ) (axes : Axes) (q : Queue (List ℕ)) : Type 0 where
@@ -63,9 +61,6 @@ module _ {room depth : ℕ} {axes : Axes} {q : Queue (List ℕ)} (w : Fits room 
     pub bytes-packed : bytesIn room depth axes n (packed room q) ≡ firstOrZeros n (flat (q .frames))
     unfolding bytesIn
     bytes-packed = rw (fitting-is (w .deep)) (flat-bytes (w .framed) n)
-
-    pub bytes-taken : bytesIn room depth axes n (packed room q) ≡ firstOrZeros n (flat (take (framesReached (sizeOf axes) n) (q .frames)))
-    bytes-taken = bytes-packed ∙ first-taken (sizeOf axes) n (q .frames) (size-bounds axes .0) (w .framed .sized)
 
   -- ---- the numbers
   pub count-packed : countIn room depth (numbersOf (packed room q)) ≡ length (q .frames)
@@ -123,7 +118,3 @@ module _ {room depth : ℕ} (h : Deep room depth) (mode : Mode) where
   pub count-few : (f : Fifo) → f .count ≤ depthIn depth mode → countIn room depth f ≡ f .count
   unfolding countIn
   count-few f few = rw (fitting-is h) (omega (arith, depth-most h mode))
-
-  -- ---- what became of each sample
-  pub conserved-in : {A : Type 0} (axes : Axes) (es : List (Event A)) → Conserved (settingOf depth mode axes) es
-  conserved-in axes es = conserved (settingOf depth mode axes) (depth-some h mode) es

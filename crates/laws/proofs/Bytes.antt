@@ -3,7 +3,7 @@
 use Prim.Native.Nat.{ℕ, zero, suc, _+_, _-_, _≤_, _<_, min}
 use mathlib.Core.Bool.{Bool, true, false}
 use mathlib.Core.Path.{_≡_, refl, ap, sym, _∙_}
-use mathlib.Core.List.{List, [], _∷_, _++_, append-nil, append-assoc}
+use mathlib.Core.List.{List, [], _++_, append-nil, append-assoc}
 use native.Mathlib.Omega.{arith}
 use native.Mathlib.Nat.{zero-add}
 use native.Mathlib.Numerals.{add-one}
@@ -65,10 +65,6 @@ unfolding zeros
 zeros-zeros n m = replicate-append-replicate n m 0
 
 -- ---- the first bytes, with zeros past an end
-pub length-first : (n : ℕ) (bs : List ℕ) → length (firstOrZeros n bs) ≡ n
-unfolding firstOrZeros
-length-first n bs = length-take-le n (bs ++ zeros n) (omega (arith, length-append bs (zeros n), length-zeros n))
-
 -- only the first n bytes count
 pub first-front : (n : ℕ) (x y : List ℕ) → n ≤ length x → firstOrZeros n (x ++ y) ≡ firstOrZeros n x
 unfolding firstOrZeros
