@@ -1,5 +1,5 @@
--- What the walks of the entry have in common: the record behind the harness's reference, opened and closed; what a callee gives back;
--- locals that are freed; and the way from a walk of a function's MIR to its contract.
+-- What the walks of the entry have in common: the record behind the harness's reference, opened and closed, or looked into and shut; what a
+-- callee gives back; and the way from a walk of a function's MIR to its contract.
 -- Assumes nothing.
 use mathlib.Core.Path.{refl}
 use Prim.Native.Nat.{ℕ, _<_, _^_}
@@ -10,9 +10,9 @@ use lib.IntN.{ℤ}
 use lib.Signed.{mag}
 use mir.Syntax.{Fn, w8, w16, w32, Place, Opd as Operand, Body as Code, seq, call}
 use mir.Val.{Val, vint, ofZ}
-use base.Logic.{ent, sep, exE, emp, via, snd∗, id⊢}
+use base.Logic.{ent, exE, emp, via, snd∗, id⊢}
 use base.Stored.{Gv}
-use base.Fml.{GName, Lft, Share, flft, fobs, fauth, fbor, fobor}
+use base.Fml.{GName, Lft, Share, fat, flft, fobs, fauth, fbor, fobor, fshr-bor}
 use prog.Model.{Model}
 use prog.Routine.{Name}
 use prog.Routine as routine
@@ -20,17 +20,17 @@ use prog.Wp.{Heap, Calls, Loops, Env, WpFn, Closed}
 use ghost.Atoms.{Atoms, sem}
 use contract.Monad.{fact}
 use contract.Running.{Running, GhostRules, givenOf, tables, tablesOf}
-use types.Kit.{Goal, Post, runs, lands, Soaks, Step, step, Given, Item, ‵, raw, _⊛_, some as exists, later, Seq, _$_, _∵_, !, qed, move, drop, use0, use1, split, join, pick, await, frame, done}
+use types.Kit.{Goal, Post, runs, lands, Soaks, Step, step, Given, Item, ‵, raw, _⊛_, some as exists, later, Seq, _$_, move, drop, use0, use1, split, pick, await}
 use types.Run.{Opds}
 use types.SemTy.{Body}
 use sound.WpLaws.{FmC, fmOf, WpFn-mono}
 use denote.RattleType.{RattleType}
 use denote.Laws.{Is, shows, Typed}
-use denote.Memory.{cellAt, mem}
+use denote.Memory.{cellAt, partAt, mem}
 use denote.Plain.{uint-makes}
 use denote.Signed.{sint-makes}
 use denote.Builtin.{u8, i16, u32}
-use denote.Steps.{opens, closes, owned, facts, heard, nothing}
+use denote.Steps.{opens, closes, looks, shuts, owned, peeks, facts, heard}
 use denote.Struct.Steps.{spelt}
 use denote.Struct.Laws as LL
 use denote.Triple.Entry.{alive}
@@ -45,22 +45,20 @@ use Rattle.device.specs.declared.parts.Core.{Core}
 use Rattle.device.proofs.parts.Core as C
 use Rattle.device.proofs.parts.Core.Laws as C′
 use Rattle.twin.specs.declared.Harness.{Harness}
+use Rattle.twin.specs.declared.Stepped.{Stepped}
+use Rattle.twin.proofs.Laid.{core-type, core-value, record-type, stepped-type, value}
 use Rattle.twin.proofs.Harness as T
 use Rattle.twin.proofs.Harness.Laws as T′
-
--- the machine value of a record, and of a core
-abbrev pub value : Harness → Val
-value = LL.val T.the-type T′.the-laws
-
-abbrev pub core-value : Core → Val
-core-value = LL.val C.the-type C′.the-laws
+use Rattle.twin.proofs.Stepped as S
+use Rattle.twin.proofs.Stepped.Laws as S′
 
 module _ {M : Type 1} {𝓤 : URA M} {H : Heap 𝓤} {A : Atoms 𝓤} {K : Type 0} {W : Given 𝓤 H A} {Γ : List (Item 𝓤)} {G : Goal 𝓤 H} where
   -- the borrow of a record is opened: the record's cell, what closes it again, and that the cell holds a record
   pub opens-record : K → Soaks G → {κ : Lft} {q : Share} {γ : GName} (h : Harness) (b o : ℕ)
       → (Is T.the-row h (value h ∷ [])
-      → Seq K W (‵ (cellAt fullShare (T.the-row .mir) (value h ∷ []) b o) ∷ ‵ (fobor κ q (Body (mem T.the-row) b o γ)) ∷ ‵ (fobs γ (T.the-row .coded .code h)) ∷ ‵ (fauth γ (T.the-row .coded .code h)) ∷ Γ) G)
+      → Seq K W (‵ (cellAt fullShare (record-type ∷ []) (value h ∷ []) b o) ∷ ‵ (fobor κ q (Body (mem T.the-row) b o γ)) ∷ ‵ (fobs γ (T.the-row .coded .code h)) ∷ ‵ (fauth γ (T.the-row .coded .code h)) ∷ Γ) G)
       → Seq K W (‵ (fobs γ (T.the-row .coded .code h)) ∷ ‵ (fbor κ (Body (mem T.the-row) b o γ)) ∷ ‵ (flft κ q) ∷ Γ) G
+  unfolding core-type core-value
   opens-record t z h b o k = opens t z T.the-row {h = h} b o (λ vs.
       spelt t T.the-row (Is T.the-row) (shows 𝓤 H A T.the-row) (LL.vals T.the-type T′.the-laws) (LL.tells T.the-type T′.the-laws) fullShare h vs b o $
       move t (1 ∷ []) $ facts t T.the-row (Is T.the-row) (shows 𝓤 H A T.the-row) h (value h ∷ []) k)
@@ -68,8 +66,25 @@ module _ {M : Type 1} {𝓤 : URA M} {H : Heap 𝓤} {A : Atoms 𝓤} {K : Type 
   -- and closed, with the machine values vs of a record g in the cell
   pub closes-record : K → Soaks G → {κ : Lft} {q : Share} {γ : GName} {u v : Gv} (g : Harness) (vs : List Val) → Is T.the-row g vs → (b o : ℕ)
       → Step K W (‵ (fobs γ (T.the-row .coded .code g)) ∷ ‵ (fbor κ (Body (mem T.the-row) b o γ)) ∷ ‵ (flft κ q) ∷ Γ) G
-      (‵ (cellAt fullShare (T.the-row .mir) vs b o) ∷ ‵ (fobor κ q (Body (mem T.the-row) b o γ)) ∷ ‵ (fobs γ u) ∷ ‵ (fauth γ v) ∷ Γ) G
+      (‵ (cellAt fullShare (record-type ∷ []) vs b o) ∷ ‵ (fobor κ q (Body (mem T.the-row) b o γ)) ∷ ‵ (fobs γ u) ∷ ‵ (fauth γ v) ∷ Γ) G
+  unfolding core-type
   closes-record t z g vs is b o = step (λ s. owned t T.the-row (Is T.the-row) (LL.makes T.the-type T′.the-plain 𝓤 H A) g vs is $ move t (1 ∷ 0 ∷ []) $ closes t z T.the-row g vs b o $ s)
+
+  -- a shared borrow of a record is looked into: a share of the record's cell, with what shuts it again
+  pub looks-record : K → Soaks G → {κ : Lft} {q : Share} (h : Harness) (b o : ℕ)
+      → ((q′ : Share) → Is T.the-row h (value h ∷ [])
+      → Seq K W (‵ (fat q′ record-type b o (value h)) ∷ ‵ (T.the-row .own h (value h ∷ [])) ∷ ‵ (fobor κ q (partAt T.the-row q′ h b o)) ∷ ‵ (fshr-bor κ (λ s. partAt T.the-row s h b o)) ∷ Γ) G)
+      → Seq K W (‵ (fshr-bor κ (λ s. partAt T.the-row s h b o)) ∷ ‵ (flft κ q) ∷ Γ) G
+  unfolding core-type core-value
+  looks-record t z h b o k = looks t z T.the-row (Is T.the-row) (shows 𝓤 H A T.the-row) (LL.vals T.the-type T′.the-laws) (LL.tells T.the-type T′.the-laws) (LL.copy T.the-type T′.the-copy 𝓤 H A W) h b o (λ q′ vs.
+      spelt t T.the-row (Is T.the-row) (shows 𝓤 H A T.the-row) (LL.vals T.the-type T′.the-laws) (LL.tells T.the-type T′.the-laws) q′ h vs b o $
+      move t (1 ∷ []) $ peeks t T.the-row (Is T.the-row) (shows 𝓤 H A T.the-row) h (value h ∷ []) (λ was. move t (1 ∷ 0 ∷ []) $
+      use1 W (‵ (fat q′ record-type b o (value h))) (W .laws .raw-at q′ record-type b o (value h)) $ k q′ was))
+
+  pub shuts-record : K → Soaks G → {κ : Lft} {q : Share} (q′ : Share) (h : Harness) (b o : ℕ)
+      → Step K W (‵ (flft κ q) ∷ Γ) G (‵ (fat q′ record-type b o (value h)) ∷ ‵ (T.the-row .own h (value h ∷ [])) ∷ ‵ (fobor κ q (partAt T.the-row q′ h b o)) ∷ Γ) G
+  unfolding core-type
+  shuts-record t z q′ h b o = step (λ s. use1 W (‵ (cellAt q′ (record-type ∷ []) (value h ∷ []) b o)) (W .laws .at-raw q′ record-type b o (value h)) $ shuts t z T.the-row q′ h (value h ∷ []) b o $ s)
 
   -- what owns a number is had for nothing
   pub has8 : K → (n : ℕ) → n < 2 ^ 8 → Step K W (‵ (u8 .own n (vint w8 n ∷ [])) ∷ Γ) G Γ G
@@ -112,12 +127,18 @@ module _ {M : Type 1} {𝓤 : URA M} {H : Heap 𝓤} {A : Atoms 𝓤} {K : Type 
 pub had-core : {M : Type 1} (𝓤 : URA M) (H : Heap 𝓤) (A : Atoms 𝓤) (c : Core) (vs : List Val) → Is C.the-row c vs → ent 𝓤 (emp 𝓤) (sem 𝓤 H A (C.the-row .own c vs))
 had-core 𝓤 H A c vs is = LL.makes C.the-type C′.the-plain 𝓤 H A c vs is
 
--- the values of a record, and of a core, are of their MIR types
-pub typed-record : {M : Type 1} {𝓤 : URA M} {H : Heap 𝓤} {A : Atoms 𝓤} (W : Given 𝓤 H A) (g : Harness) (vs : List Val) → Is T.the-row g vs → Typed (T.the-row .mir) vs
+-- the values of a record, of a core and of a result of `step` are of their MIR types
+pub typed-record : {M : Type 1} {𝓤 : URA M} {H : Heap 𝓤} {A : Atoms 𝓤} (W : Given 𝓤 H A) (g : Harness) (vs : List Val) → Is T.the-row g vs → Typed (record-type ∷ []) vs
+unfolding core-type
 typed-record {𝓤 = 𝓤} {H = H} {A = A} W g vs is = LL.lawful T.the-type T′.the-laws 𝓤 H A W .typed g vs is
 
-pub typed-core : {M : Type 1} {𝓤 : URA M} {H : Heap 𝓤} {A : Atoms 𝓤} (W : Given 𝓤 H A) (c : Core) (vs : List Val) → Is C.the-row c vs → Typed (C.the-row .mir) vs
+pub typed-core : {M : Type 1} {𝓤 : URA M} {H : Heap 𝓤} {A : Atoms 𝓤} (W : Given 𝓤 H A) (c : Core) (vs : List Val) → Is C.the-row c vs → Typed (core-type ∷ []) vs
+unfolding core-type
 typed-core {𝓤 = 𝓤} {H = H} {A = A} W c vs is = LL.lawful C.the-type C′.the-laws 𝓤 H A W .typed c vs is
+
+pub typed-stepped : {M : Type 1} {𝓤 : URA M} {H : Heap 𝓤} {A : Atoms 𝓤} (W : Given 𝓤 H A) (r : Stepped) (vs : List Val) → Is S.the-row r vs → Typed (stepped-type ∷ []) vs
+unfolding core-type
+typed-stepped {𝓤 = 𝓤} {H = H} {A = A} W r vs is = LL.lawful S.the-type S′.the-laws 𝓤 H A W .typed r vs is
 
 -- the walk of a function's MIR proves what is stated of the function
 pub proved-by : {M : Type 1} (𝓤 : URA M) (H : Heap 𝓤) (𝓜 : Model 𝓤 H) (𝓖 : GhostRules 𝓤 H) (𝓡 : Running 𝓤 H 𝓜) (E : Ended) (hs : Stays (E .signature .params) (E .kept)) (c : Clauses 𝓤 E)

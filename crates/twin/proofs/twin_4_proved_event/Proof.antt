@@ -23,7 +23,7 @@ use ghost.Atoms.{Atoms}
 use contract.Monad.{Fun, fact}
 use contract.Running.{givenOf, tables}
 use types.Kit.{Given, Item, mean, ‵, ⋆, raw, _⊛_, some, later, _$_, _∵_, !, qed, by, move, keep, drop, use0, use1, use3, split, join, pick, fsplit, fsplit3, fjoin, fjoin3, feqL, feqI, suffices, frame, await, rewrite, done}
-use types.Run.{look, look-raw, init, store, store-raw, forget, stop, hop, fld, from, load, addr, of-opd, assigns, and-then, no-more, land, returns, enter, alloc1, alloc0, params1, pass1, pass0, free1, free0}
+use types.Run.{look, look-raw, init, store-raw, forget, stop, hop, fld, from, load, addr, of-opd, assigns, and-then, no-more, land, returns, enter, alloc1, alloc0, params1, pass1, pass0, free1, free0}
 use types.Part.{agg, whole, sub, look-in}
 use types.SemTy.{Body}
 use sound.WpLaws.{FmC}
@@ -51,8 +51,9 @@ use Rattle.device.proofs.parts.Core.{the-row as core-row}
 use Rattle.twin.specs.Entry.{Numbered, deviceIn, asked, stepOf, steppedWhole, lentAt}
 use Rattle.twin.specs.declared.Harness.{Harness}
 use Rattle.twin.specs.declared.Stepped.{Stepped}
-use Rattle.twin.proofs.Walk.{value, core-value, opens-record, closes-record, typed-core, had-core, has8, has16, has32, proved-by}
-use Rattle.twin.proofs.Lend.{Registers, Store, regsAt, framesAt, lent-at, lends-parts, parts-back}
+use Rattle.twin.proofs.Laid.{core-type, core-value, stepped-type, value, stepped-value, regsAt, framesAt, core-lies, frames-lie, laid-out}
+use Rattle.twin.proofs.Walk.{opens-record, closes-record, typed-core, typed-stepped, had-core, has8, has16, has32, proved-by}
+use Rattle.twin.proofs.Lend.{Registers, Store, lent-at, lends-parts, parts-back}
 use Rattle.twin.proofs.Harness as T
 use Rattle.twin.proofs.Stepped as S
 use Rattle.twin.proofs.Stepped.Laws as S′
@@ -64,6 +65,7 @@ use Rattle.twin.proofs.twin_4_proved_event.Key.{name as #twin-4-proved-
 use Rattle.twin.proofs.twin_4_proved_event as f
 use Rattle.twin.proofs.twin_4_proved_event.Statement as stated
 use Rattle.twin.proofs.twin_4_proved_event.Code as code
+use Rattle.twin.proofs.twin_4_proved_event.Code.Mir.{by-name}
 
 abbrev Arg : Type 0
 Arg = RefT Harness × (ℕ × (ℕ × (ℕ × (ℤ × (ℤ × (ℤ × (RefT (List ℕ) × (ℕ × Unit {0}))))))))
@@ -71,8 +73,13 @@ Arg = RefT Harness × (ℕ × (ℕ × (ℕ × (ℤ × (ℤ × (ℤ × (RefT (Lis
 abbrev stayed : Stays (f.ended .signature .params) (f.ended .kept)
 stayed = (stay-ref (0 ∷ []) tt (plain (λ _. T.the-row)), (stay-none (λ _. u8) yes, (stay-none (λ _. u8) yes, (stay-none (λ _. u8) yes, (stay-none (λ _. i16) yes, (stay-none (λ _. i16) yes, (stay-none (λ _. i16) yes, (gave-slice (1 ∷ []) tt (plain (λ _. u8)), (stay-none (λ _. u32) yes, tt)))))))))
 
--- what whoever holds the result of `step` knows of its two fields
+-- what whoever holds the result of `step` knows of its machine value and of its two fields
+told : (r : Stepped) (v : Val) → Is S.the-row r (v ∷ []) → v ≡ stepped-value r
+unfolding core-value
+told r v is = ap only (LL.tells S.the-type S′.the-laws r (v ∷ []) is)
+
 held : (r : Stepped) (v : Val) → Is S.the-row r (v ∷ []) → Is core-row (r .core) (core-value (r .core) ∷ [])
+unfolding core-value
 held r v is = LL.owed S.the-type S′.the-laws r (v ∷ []) is .1 .0
 
 small : (r : Stepped) (v : Val) → Is S.the-row r (v ∷ []) → r .number < 2 ^ 8
@@ -206,22 +213,22 @@ module _ {M : Type 1} (𝓤 : URA M) (H : Heap 𝓤) (A : Atoms 𝓤) (W : Given
   left r zs = record { regs = zs .1 .0; core = r .core; frames = zs .1 .1 .0 }
 
   module _ (C : Calls 𝓤 H) (Λ : Loops 𝓤 H) (fmc : FmC 𝓤 H (W .laws) C) (known : Triple 𝓤 (C #step) (Step 𝓤 H A at-mem run)) where
-    walk : Room u8 (length ys) → ent 𝓤 (onEntry 𝓤 H A f.signature (κ, (κ′, tt)) (q, (q′, tt)) a at) (WpFn 𝓤 H C Λ code.function flat Post)
+    walk : Room u8 (length ys) → ent 𝓤 (onEntry 𝓤 H A f.signature (κ, (κ′, tt)) (q, (q′, tt)) a at) (WpFn 𝓤 H C Λ (laid-out by-name) flat Post)
     walk room =
         qed W ((‵ (flft κ q) ⊛ ‵ (flft κ′ q′) ⊛ ‵ ftrue) ∷ ‵ (owns (MutRef (named 0) κ T.the-row ∷ u8 ∷ u8 ∷ u8 ∷ i16 ∷ i16 ∷ i16 ∷ MutSlice (named 1) κ′ u8 ∷ u32 ∷ []) a at) ∷ []) ∵ split ! $ move ! (2 ∷ []) $ fsplit ! $ move ! (1 ∷ []) $ fsplit ! $
         move ! (1 ∷ []) $ fsplit ! $ move ! (1 ∷ []) $ fsplit ! $ move ! (1 ∷ []) $ fsplit ! $ move ! (1 ∷ []) $ fsplit ! $ move ! (1 ∷ []) $ fsplit ! $ move ! (1 ∷ []) $ fsplit ! $ move ! (1 ∷ []) $ fsplit ! $
         move ! (9 ∷ []) $ fsplit3 ! $ drop ! $ keep ! (0 ∷ 1 ∷ 11 ∷ 4 ∷ 12 ∷ []) $
         -- [obs; the borrow; its token; what the slice owns; the slice's token]
-        enter ! C Λ code.function flat _ $
+        enter ! C Λ (laid-out by-name) flat _ $
         alloc1 ! (λ l₀. alloc1 ! (λ l₁. alloc1 ! (λ l₂. alloc1 ! (λ l₃. alloc1 ! (λ l₄. alloc1 ! (λ l₅. alloc1 ! (λ l₆. alloc1 ! (λ l₇. alloc1 ! (λ l₈. alloc1 ! (λ l₉. alloc1 ! (λ l₁₀. alloc1 ! (λ l₁₁. alloc1 ! (λ l₁₂. alloc1 ! (λ l₁₃. alloc1 ! (λ l₁₄. alloc1 ! (λ l₁₅. alloc0 ! $ params1 ! $
         pass1 ! (init ! 28 refl (tt, tt)) $ pass1 ! (init ! 26 refl (tt, record { fits = e .kind-fits })) $ pass1 ! (init ! 24 refl (tt, record { fits = e .address-fits })) $ pass1 ! (init ! 22 refl (tt, record { fits = e .byte-fits })) $
         pass1 ! (init ! 20 refl (tt, ofZ-fits w16 (e .x) (record { sfits = e .x-fits }))) $ pass1 ! (init ! 18 refl (tt, ofZ-fits w16 (e .y) (record { sfits = e .y-fits }))) $ pass1 ! (init ! 16 refl (tt, ofZ-fits w16 (e .z) (record { sfits = e .z-fits }))) $
         pass1 ! (init ! 14 refl (tt, (tt, (record { fits = room .0 }, tt)))) $ pass1 ! (init ! 12 refl (tt, record { fits = e .us-fits })) $ pass0 ! $
         move ! (32 ∷ 33 ∷ 34 ∷ []) $ opens-record ! tt h b o (λ was. lends-parts ! tt h was b o (λ α β γ₁ γ₂ was-core.
         -- [what the registers' borrow owns; the store's; their lenders' parts; their tokens; the core's cell; the way back; the open borrow; obs; auth; room for _15; …; _9; …; _1; …; room for _0; …; what the slice owns; its token]
-        assigns ! (of-opd ! (load ! (from ! (hop ! (look ! 39 refl) (fld ! refl (stop !)))) (look-raw ! 6 refl))) (from ! (stop !)) (init ! 19 refl (typed-core W (h .core) _ was-core .0)) $
+        assigns ! (of-opd ! (load ! (from ! (hop ! (look ! 39 refl) (fld ! core-lies (stop !)))) (look-raw ! 6 refl))) (from ! (stop !)) (init ! 19 refl (typed-core W (h .core) _ was-core .0)) $
         assigns ! (addr ! (from ! (hop ! (look ! 39 refl) (fld ! refl (stop !))))) (from ! (stop !)) (init ! 17 refl (tt, tt)) $
-        assigns ! (addr ! (from ! (hop ! (look ! 39 refl) (fld ! refl (stop !))))) (from ! (stop !)) (init ! 15 refl (tt, tt)) $
+        assigns ! (addr ! (from ! (hop ! (look ! 39 refl) (fld ! frames-lie (stop !))))) (from ! (stop !)) (init ! 15 refl (tt, tt)) $
         assigns ! (addr ! (from ! (fld ! refl (hop ! (look-in ! 25 (sub ! 0 refl (whole !))) (stop !))))) (from ! (stop !)) (init ! 13 refl (tt, tt)) $
         assigns ! (agg ! (and-then ! (load ! (from ! (stop !)) (look ! 13 refl)) (and-then ! (load ! (from ! (fld ! refl (stop !))) (look-in ! 25 (sub ! 1 refl (whole !)))) (no-more !)))) (from ! (stop !)) (init ! 11 refl (tt, (tt, (record { fits = room .0 }, tt)))) $
         use0 W (‵ (core-row .own (h .core) (core-value (h .core) ∷ []))) (had-core 𝓤 H A (h .core) _ was-core) $ move ! (6 ∷ 45 ∷ []) $ join ! $ move ! (6 ∷ 0 ∷ []) $ join ! $
@@ -238,9 +245,9 @@ module _ {M : Type 1} (𝓤 : URA M) (H : Heap 𝓤) (A : Atoms 𝓤) (W : Given
         -- [the last list; true; the last frames; the last registers; the tokens and the result; the lenders' parts; the core's cell; the way back; …]
         move ! (4 ∷ []) $ split ! $ move ! (1 ∷ []) $ facts ! S.the-row (Is S.the-row) (shows 𝓤 H A S.the-row) r (v ∷ []) (λ is. split ! $ move ! (1 ∷ []) $ split ! $
         -- [the store's token; the slice's; the registers'; the last list; true; the last frames; the last registers; the lenders' parts; the core's cell; the way back; the open borrow; obs; auth; _15; …]
-        land ! (from ! (stop !)) (init ! 24 refl (LL.lawful S.the-type S′.the-laws 𝓤 H A W .typed r _ is .0)) $
-        rewrite ! 24 (λ (u : Val). ‵ (fat fullShare S′.mir l₁₀ 0 u)) (ap only (LL.tells S.the-type S′.the-laws r (v ∷ []) is)) refl $
-        assigns ! (of-opd ! (load ! (from ! (fld ! refl (stop !))) (look-in ! 24 (sub ! 1 refl (whole !))))) (from ! (hop ! (look ! 42 refl) (fld ! refl (stop !)))) (store-raw ! 9 refl (typed-core W (r .core) _ (held r v is) .0)) $
+        land ! (from ! (stop !)) (init ! 24 refl (typed-stepped W r _ is .0)) $
+        rewrite ! 24 (λ (u : Val). ‵ (fat fullShare stepped-type l₁₀ 0 u)) (told r v is) refl $
+        assigns ! (of-opd ! (load ! (from ! (fld ! refl (stop !))) (look-in ! 24 (sub ! 1 refl (whole !))))) (from ! (hop ! (look ! 42 refl) (fld ! core-lies (stop !)))) (store-raw ! 9 refl (typed-core W (r .core) _ (held r v is) .0)) $
         assigns ! (of-opd ! (load ! (from ! (fld ! refl (stop !))) (look-in ! 24 (sub ! 0 refl (whole !))))) (from ! (stop !)) (init ! 44 refl (tt, record { fits = small r v is })) $
         move ! (2 ∷ 0 ∷ 7 ∷ 8 ∷ 6 ∷ 5 ∷ 9 ∷ 10 ∷ []) $ parts-back ! tt (left r zs) (held r v is) b o (λ back.
         -- [the record's cell; the slice's token; the last list; true; the open borrow; obs; auth; _15; …]
@@ -254,6 +261,7 @@ module _ {M : Type 1} (𝓤 : URA M) (H : Heap 𝓤) (A : Atoms 𝓤) (W : Given
 
 module _ {M : Type 1} (𝓤 : URA M) (H : Heap 𝓤) (A : Atoms 𝓤) (W : Given 𝓤 H A) (at-mem : Memory → SProp 𝓤) (run : Routine → Fun 𝓤) where
   walks : (C : Calls 𝓤 H) (Λ : Loops 𝓤 H) → FmC 𝓤 H (W .laws) C → Triple 𝓤 (C #step) (Step 𝓤 H A at-mem run) → Walks 𝓤 H A f.ended stayed (WpFn 𝓤 H C Λ code.function) (f.clauses 𝓤 H A at-mem run)
+  unfolding core-type
   walks C Λ fm known = walked 𝓤 H A f.ended stayed (f.clauses 𝓤 H A at-mem run) (WpFn 𝓤 H C Λ code.function)
       (λ κs. (ptr-vals, (uint-vals w8, (uint-vals w8, (uint-vals w8, (sint-vals w16, (sint-vals w16, (sint-vals w16, (slice-vals, (uint-vals w32, tt))))))))))
       (λ κs. (mut-tells (named 0) (κs .0) T.the-row, (uint-tells w8, (uint-tells w8, (uint-tells w8, (sint-tells w16, (sint-tells w16, (sint-tells w16, (mut-slice-tells (named 1) (κs .1 .0) u8, (uint-tells w32, tt))))))))))

@@ -37,11 +37,13 @@ use Rattle.twin.proofs.Harness.power_up as g
 use Rattle.twin.proofs.Harness.power_up.Symbol as g-def
 use Rattle.twin.proofs.Harness.power_up.Symbol.{name as #power-up}
 use Rattle.twin.proofs.Harness.power_up.Met as g-thm
+use Rattle.twin.proofs.Laid.{core-type, laid-out}
 use Rattle.twin.proofs.Walk.{opens-record, closes-record, typed-record, asks, proved-by}
 use Rattle.twin.proofs.twin_4_proved_power_up.Key.{name as #twin-4-proved-power-up}
 use Rattle.twin.proofs.twin_4_proved_power_up as f
 use Rattle.twin.proofs.twin_4_proved_power_up.Statement as stated
 use Rattle.twin.proofs.twin_4_proved_power_up.Code as code
+use Rattle.twin.proofs.twin_4_proved_power_up.Code.Mir.{by-name}
 
 abbrev stayed : Stays (f.ended .signature .params) (f.ended .kept)
 stayed = (stay-ref (0 ∷ []) tt (plain (λ _. T.the-row)), tt)
@@ -74,11 +76,11 @@ module _ {M : Type 1} (𝓤 : URA M) (H : Heap 𝓤) (A : Atoms 𝓤) (W : Given
   goes-start = qed W [] ∵ nothing ! $ nothing ! $ join ! $ frame ! $ done !
 
   module _ (C : Calls 𝓤 H) (Λ : Loops 𝓤 H) (fmc : FmC 𝓤 H (W .laws) C) (known : Triple 𝓤 (C #power-up) (Start 𝓤 H A at-mem run)) where
-    walk : ent 𝓤 (onEntry 𝓤 H A f.signature (κ, tt) (q, tt) x at) (WpFn 𝓤 H C Λ code.function (vptr b o ∷ []) Post)
+    walk : ent 𝓤 (onEntry 𝓤 H A f.signature (κ, tt) (q, tt) x at) (WpFn 𝓤 H C Λ (laid-out by-name) (vptr b o ∷ []) Post)
     walk =
         qed W ((‵ (flft κ q) ⊛ ‵ ftrue) ∷ ‵ (owns (MutRef (named 0) κ T.the-row ∷ []) x at) ∷ []) ∵ split ! $ move ! (2 ∷ []) $ fsplit ! $ fsplit3 ! $ drop ! $ keep ! (0 ∷ 1 ∷ 3 ∷ []) $
         -- [obs; the borrow; the token]
-        enter ! C Λ code.function (vptr b o ∷ []) _ $
+        enter ! C Λ (laid-out by-name) (vptr b o ∷ []) _ $
         alloc1 ! (λ l₀. alloc1 ! (λ l₁. alloc1 ! (λ l₂. alloc0 ! $ params1 ! $ pass1 ! (init ! 2 refl (tt, tt)) $ pass0 ! $
         move ! (6 ∷ 7 ∷ 8 ∷ []) $ opens-record ! tt h b o (λ _.
         -- [the record's cell; the open borrow; obs; auth; room for _2; …; _1; …; room for _0; …]
@@ -92,6 +94,7 @@ module _ {M : Type 1} (𝓤 : URA M) (H : Heap 𝓤) (A : Atoms 𝓤) (W : Given
 
 module _ {M : Type 1} (𝓤 : URA M) (H : Heap 𝓤) (A : Atoms 𝓤) (W : Given 𝓤 H A) (at-mem : Memory → SProp 𝓤) (run : Routine → Fun 𝓤) where
   walks : (C : Calls 𝓤 H) (Λ : Loops 𝓤 H) → FmC 𝓤 H (W .laws) C → Triple 𝓤 (C #power-up) (Start 𝓤 H A at-mem run) → Walks 𝓤 H A f.ended stayed (WpFn 𝓤 H C Λ code.function) (f.clauses 𝓤 H A at-mem run)
+  unfolding core-type
   walks C Λ fm known = walked 𝓤 H A f.ended stayed (f.clauses 𝓤 H A at-mem run) (WpFn 𝓤 H C Λ code.function) (λ κs. (ptr-vals, tt)) (λ κs. (mut-tells (named 0) (κs .0) T.the-row, tt))
       (λ κs qs bounds a _ _. via 𝓤 _ (fst∗ 𝓤 _ (emp 𝓤)) (walk 𝓤 H A W at-mem run (κs .0) (qs .0) (a .0 .ptr .0) (a .0 .ptr .1) (a .0 .name) (a .0 .now) C Λ fm known))
 
