@@ -1,7 +1,6 @@
 // The any-motion detector of 01: the points of the slopes, their runs, and an alarm.
 ghost use mathlib.Core.Path.{_≡_};
 ghost use Rattle.motion.specs.Detector.{quiet, pointsNeeded, afterOver, afterCalm, afterSample, restarted, clocked};
-ghost use Rattle.alarm.specs.Alarm.{marksOf};
 use alarm::Alarm;
 use alarm::Lapse;
 use slopes::Point;
@@ -45,20 +44,10 @@ impl Motion {
         }
     }
 
-    // The status, bit 2 of 0x09.
-    pub fn is_set(self) -> bool
-        ensures { λ r. ⌜ r ≡ self .alarm .status ⌝ }
+    pub fn alarm(self) -> Alarm
+        ensures { λ r. ⌜ r ≡ self .alarm ⌝ }
     {
-        let alarm = self.alarm;
-        alarm.is_set()
-    }
-
-    // The byte of 0x0B.
-    pub fn marks(self) -> u8
-        ensures { λ r. ⌜ r ≡ marksOf (self .alarm) ⌝ }
-    {
-        let alarm = self.alarm;
-        alarm.marks()
+        self.alarm
     }
 
     // Status, marks and runs are cleared.

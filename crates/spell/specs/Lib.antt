@@ -1,0 +1,2 @@
+pub mod Stopwatch
+pub mod Spell
