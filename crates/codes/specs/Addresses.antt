@@ -36,6 +36,22 @@ driveAt = 0x20
 abbrev pub latchAt : ℕ
 latchAt = 0x21
 
+-- low-g's delay and threshold; the hystereses of low-g and of high-g, with low-g's mode; high-g's delay and threshold
+abbrev pub lowDelayAt : ℕ
+lowDelayAt = 0x22
+
+abbrev pub lowThresholdAt : ℕ
+lowThresholdAt = 0x23
+
+abbrev pub hysteresesAt : ℕ
+hysteresesAt = 0x24
+
+abbrev pub highDelayAt : ℕ
+highDelayAt = 0x25
+
+abbrev pub highThresholdAt : ℕ
+highThresholdAt = 0x26
+
 -- any-motion's points in a row, and its threshold
 abbrev pub pointsAt : ℕ
 pointsAt = 0x27

@@ -31,6 +31,17 @@ pub const DRIVE_AT: usize = 0x20;
 // The latch mode.
 pub const LATCH_AT: usize = 0x21;
 
+// Low-g's delay and threshold; the hystereses of low-g and of high-g, with low-g's mode; high-g's delay and threshold.
+pub const LOW_DELAY_AT: usize = 0x22;
+
+pub const LOW_THRESHOLD_AT: usize = 0x23;
+
+pub const HYSTERESES_AT: usize = 0x24;
+
+pub const HIGH_DELAY_AT: usize = 0x25;
+
+pub const HIGH_THRESHOLD_AT: usize = 0x26;
+
 // Any-motion's points in a row, and its threshold.
 pub const POINTS_AT: usize = 0x27;
 

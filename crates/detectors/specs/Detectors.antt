@@ -9,14 +9,19 @@ use Rattle.codes.specs.Addresses.{axesAt, latchAt, pointsAt, thresholdAt}
 use Rattle.codes.specs.Latch.{latchOf, isUnlatched, holdOf}
 use Rattle.alarm.specs.Alarm.{marksOf}
 use Rattle.slopes.specs.Previous.{noPrevious, remembered, forgotten, slopesTo}
+use Rattle.slopes.specs.declared.Previous.{Previous}
 use Rattle.motion.specs.Detector.{quiet, afterSample, restarted, clocked}
+use Rattle.motion.specs.declared.Motion.{Motion}
 use Rattle.motion.specs.declared.Settings.{Settings}
+use Rattle.gravity.specs.Gravity.{bothQuiet, bothRestarted, bothClocked, bothSampled}
+use Rattle.gravity.specs.declared.Gravity.{Gravity}
 use Rattle.registers.specs.declared.Deeds.{Deeds}
+use Rattle.detectors.specs.declared.Alarms.{Alarms}
 use Rattle.detectors.specs.declared.Detectors.{Detectors}
 
 -- as at power-up
 abbrev pub allQuiet : Detectors
-allQuiet = record { previous = noPrevious; motion = quiet }
+allQuiet = record { previous = noPrevious; motion = quiet; gravity = bothQuiet }
 
 -- what any-motion goes by: 0x16, 0x27, 0x28 and the latch mode in 0x21
 abbrev pub motionSettings : List ℕ → Settings
@@ -28,25 +33,57 @@ motionSettings regs = record {
   hold = holdOf (latchOf (getD regs latchAt 0));
 }
 
--- an accepted sample x, y, z: each slope detector sees the slopes from the sample before it, which is then the previous one
+-- any-motion after an accepted sample x, y, z: it sees the slopes from the sample before it
+abbrev pub motionSampled : List ℕ → Previous → ℤ → ℤ → ℤ → Motion → Motion
+motionSampled regs previous x y z m = afterSample (motionSettings regs) (slopesTo x y z previous) m
+
+-- an accepted sample x, y, z, which is then the previous one
 unfoldable pub detectorsSampled : List ℕ → ℤ → ℤ → ℤ → Detectors → Detectors
 detectorsSampled regs x y z d = record {
   previous = remembered x y z;
-  motion = afterSample (motionSettings regs) (slopesTo x y z (d .previous)) (d .motion);
+  motion = motionSampled regs (d .previous) x y z (d .motion);
+  gravity = bothSampled regs x y z (d .gravity);
 }
 
 -- a clock of us microseconds: it does not touch the previous sample
 unfoldable pub detectorsClocked : ℕ → Detectors → Detectors
-detectorsClocked us d = record { previous = d .previous; motion = clocked us (d .motion) }
+detectorsClocked us d = record { previous = d .previous; motion = clocked us (d .motion); gravity = bothClocked us (d .gravity) }
 
--- a write: "clears status, marks and runs; 0x0F also forgets the previous sample"; soft reset makes all as at power-up
+-- of a write: "0x0F also forgets the previous sample"
+abbrev pub previousWritten : Bool → Previous → Previous
+previousWritten forgets p = pick forgets (forgotten p) p
+
+-- "clears status, marks and runs"
+abbrev pub motionWritten : Bool → Motion → Motion
+motionWritten restarts m = pick restarts (restarted m) m
+
+-- Q-5: "restarts them: status, marks and runs clear"
+abbrev pub gravityWritten : Bool → Gravity → Gravity
+gravityWritten restarts g = pick restarts (bothRestarted g) g
+
+-- a write; soft reset makes all as at power-up
 unfoldable pub detectorsWritten : Deeds → Detectors → Detectors
 detectorsWritten e d =
     pick (e .resets) allQuiet
     (record {
-      previous = pick (e .forgets) (forgotten (d .previous)) (d .previous);
-      motion = pick (e .restarts .motion) (restarted (d .motion)) (d .motion);
+      previous = previousWritten (e .forgets) (d .previous);
+      motion = motionWritten (e .restarts .motion) (d .motion);
+      gravity = gravityWritten (e .restarts .gravity) (d .gravity);
     })
+
+-- what shows of them
+abbrev pub alarmsOf : Detectors → Alarms
+alarmsOf d = record { low = d .gravity .low; high = d .gravity .high; motion = d .motion .alarm }
+
+-- the statuses of low-g and of high-g, and the byte of 0x0C
+abbrev pub lowStatus : Detectors → Bool
+lowStatus d = d .gravity .low .status
+
+abbrev pub highStatus : Detectors → Bool
+highStatus d = d .gravity .high .status
+
+abbrev pub highMarks : Detectors → ℕ
+highMarks d = marksOf (d .gravity .high)
 
 -- the status of any-motion, and the byte of 0x0B
 abbrev pub motionStatus : Detectors → Bool

@@ -1,6 +1,7 @@
 // All detectors together, with the previous sample that the slope detectors share: what a sample, a clock and a write do to them.
 ghost use mathlib.Core.Path.{_≡_};
 ghost use Rattle.detectors.specs.Detectors as detectors;
+use alarm::Alarm;
 use codes::AXES_AT;
 use codes::LATCH_AT;
 use codes::POINTS_AT;
@@ -8,6 +9,7 @@ use codes::THRESHOLD_AT;
 use codes::hold_of;
 use codes::is_unlatched;
 use codes::latch_of;
+use gravity::Gravity;
 use motion::Motion;
 use motion::Settings;
 use registers::Deeds;
@@ -18,6 +20,14 @@ use slopes::no_axis;
 pub struct Detectors {
     previous: Previous,
     motion: Motion,
+    gravity: Gravity,
+}
+
+// The alarms of low-g, of high-g and of any-motion.
+pub struct Alarms {
+    pub low: Alarm,
+    pub high: Alarm,
+    pub motion: Alarm,
 }
 
 // What any-motion goes by.
@@ -34,6 +44,54 @@ fn motion_settings(regs: &[u8; 64]) -> Settings
     }
 }
 
+// Any-motion after an accepted sample. While no axis is enabled the sample gives no point, and no slope is reckoned.
+fn motion_sampled(
+    motion: Motion,
+    previous: Previous,
+    regs: &[u8; 64],
+    x: i16,
+    y: i16,
+    z: i16,
+) -> Motion
+    ensures { λ r. ⌜ r ≡ detectors.motionSampled (now (regs .entry)) previous x y z motion ⌝ }
+{
+    if no_axis(regs[AXES_AT]) {
+        return motion;
+    }
+    let slopes = previous.slopes_to(x, y, z);
+    motion.sample(motion_settings(regs), slopes)
+}
+
+// The previous sample after a write.
+fn previous_written(previous: Previous, forgets: bool) -> Previous
+    ensures { λ r. ⌜ r ≡ detectors.previousWritten forgets previous ⌝ }
+{
+    if forgets {
+        return previous.forget();
+    }
+    previous
+}
+
+// Any-motion after a write.
+fn motion_written(motion: Motion, restarts: bool) -> Motion
+    ensures { λ r. ⌜ r ≡ detectors.motionWritten restarts motion ⌝ }
+{
+    if restarts {
+        return motion.restart();
+    }
+    motion
+}
+
+// Low-g and high-g after a write.
+fn gravity_written(gravity: Gravity, restarts: bool) -> Gravity
+    ensures { λ r. ⌜ r ≡ detectors.gravityWritten restarts gravity ⌝ }
+{
+    if restarts {
+        return gravity.restart();
+    }
+    gravity
+}
+
 impl Detectors {
     // As at power-up.
     pub fn quiet() -> Self
@@ -42,37 +100,33 @@ impl Detectors {
         Detectors {
             previous: Previous::none(),
             motion: Motion::quiet(),
+            gravity: Gravity::quiet(),
         }
     }
 
-    // Whether any-motion's status is set.
-    pub fn motion_status(self) -> bool
-        ensures { λ r. ⌜ r ≡ detectors.motionStatus self ⌝ }
+    // The alarms: what shows of the detectors.
+    pub fn alarms(self) -> Alarms
+        ensures { λ r. ⌜ r ≡ detectors.alarmsOf self ⌝ }
     {
         let motion = self.motion;
-        motion.is_set()
+        let gravity = self.gravity;
+        Alarms {
+            low: gravity.low_alarm(),
+            high: gravity.high_alarm(),
+            motion: motion.alarm(),
+        }
     }
 
-    // The byte of 0x0B.
-    pub fn motion_marks(self) -> u8
-        ensures { λ r. ⌜ r ≡ detectors.motionMarks self ⌝ }
-    {
-        let motion = self.motion;
-        motion.marks()
-    }
-
-    // An accepted sample comes. While no axis is enabled it gives no point: it is remembered, and no slope is reckoned.
+    // An accepted sample comes.
     pub fn sample(mut self, regs: &[u8; 64], x: i16, y: i16, z: i16) -> Self
         ensures { λ r. ⌜ r ≡ detectors.detectorsSampled (now (regs .entry)) x y z self ⌝ }
     {
         let previous = self.previous;
         let motion = self.motion;
+        let gravity = self.gravity;
         self.previous = Previous::remember(x, y, z);
-        if no_axis(regs[AXES_AT]) {
-            return self;
-        }
-        let slopes = previous.slopes_to(x, y, z);
-        self.motion = motion.sample(motion_settings(regs), slopes);
+        self.motion = motion_sampled(motion, previous, regs, x, y, z);
+        self.gravity = gravity.sample(regs, x, y, z);
         self
     }
 
@@ -81,7 +135,9 @@ impl Detectors {
         ensures { λ r. ⌜ r ≡ detectors.detectorsClocked microseconds self ⌝ }
     {
         let motion = self.motion;
+        let gravity = self.gravity;
         self.motion = motion.clock(microseconds);
+        self.gravity = gravity.clock(microseconds);
         self
     }
 
@@ -94,12 +150,11 @@ impl Detectors {
         }
         let previous = self.previous;
         let motion = self.motion;
-        if deeds.forgets {
-            self.previous = previous.forget();
-        }
-        if deeds.restarts.motion {
-            self.motion = motion.restart();
-        }
+        let gravity = self.gravity;
+        let restarts = deeds.restarts;
+        self.previous = previous_written(previous, deeds.forgets);
+        self.motion = motion_written(motion, restarts.motion);
+        self.gravity = gravity_written(gravity, restarts.gravity);
         self
     }
 }

@@ -6,7 +6,8 @@ use mathlib.Core.List.{List}
 use mathlib.Core.Path.{_≡_, refl}
 use lib.IntN.{ℤ}
 use lib.ListN.{length}
-use Rattle.motion.proofs.Clock.{clocked-none, clocked-sum}
+use Rattle.motion.proofs.Clock as motion
+use Rattle.gravity.proofs.Clock as gravity
 use Rattle.detectors.specs.Detectors.{detectorsWritten, detectorsClocked}
 use Rattle.registers.specs.Answers.{accepted}
 use Rattle.registers.specs.Deeds.{judgement}
@@ -42,8 +43,8 @@ after-is d a (suc n) = rw (after-is d a n)
 -- clock of 0 changes nothing
 pub clock-sum : (a b : ℕ) (d : Device) → clockOf (clockOf d a .device) b ≡ clockOf d (a + b)
 unfolding clockOf detectorsClocked
-clock-sum a b d = rw (clocked-sum a b (d .detectors .motion))
+clock-sum a b d = rw (motion.clocked-sum a b (d .detectors .motion), gravity.clocked-sum a b (d .detectors .gravity))
 
 pub clock-none : (d : Device) → clockOf d 0 .device ≡ d
 unfolding clockOf detectorsClocked
-clock-none d = rw (clocked-none (d .detectors .motion))
+clock-none d = rw (motion.clocked-none (d .detectors .motion), gravity.clocked-none (d .detectors .gravity))

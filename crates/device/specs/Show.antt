@@ -11,7 +11,8 @@ use Rattle.codes.specs.declared.Mode.{Mode}
 use Rattle.codes.specs.declared.Range.{Range}
 use Rattle.fifo.specs.Setting.{depthIn}
 use Rattle.fifo.specs.Store.{countAt, statusAt}
-use Rattle.detectors.specs.Detectors.{motionStatus, motionMarks}
+use Rattle.alarm.specs.Alarm.{marksOf}
+use Rattle.detectors.specs.Detectors.{alarmsOf}
 use Rattle.interrupts.specs.Statuses.{statusesOf}
 use Rattle.interrupts.specs.Maps.{statusByte}
 use Rattle.interrupts.specs.Pins.{pinsAt}
@@ -24,7 +25,7 @@ use Rattle.device.specs.declared.showing.Inside.{Inside}
 
 -- what shows beside registers and channels: neither needs the FIFO's store
 abbrev pub insideOf : Device → Inside
-insideOf d = record { temperature = d .temperature; came = d .came; fifo = d .fifo; detectors = d .detectors }
+insideOf d = record { temperature = d .temperature; came = d .came; fifo = d .fifo; alarms = alarmsOf (d .detectors) }
 
 -- what the statuses are made of; "the depth" is that of the mode in 0x3E
 abbrev pub sourcesOf : List ℕ → Inside → Sources
@@ -32,13 +33,15 @@ sourcesOf regs s = record {
   count = countAt depth (s .fifo);
   depth = depthIn depth (modeOf (getD regs controlAt 0));
   came = s .came;
-  moved = motionStatus (s .detectors);
+  fell = s .alarms .low .status;
+  hit = s .alarms .high .status;
+  moved = s .alarms .motion .status;
 }
 
 abbrev pub statusesIn : List ℕ → Inside → Statuses
 statusesIn regs s = statusesOf regs (sourcesOf regs s)
 
--- the byte of an address that is no data register: 0x08 to 0x0B and 0x0E as they are now, the others as stored
+-- the byte of an address that is no data register: 0x08 to 0x0C and 0x0E as they are now, the others as stored
 unfoldable pub shownByte : Inside → List ℕ → ℕ → ℕ
 shownByte s regs a =
     -- "A sample sets .. 0x08"
@@ -46,10 +49,12 @@ shownByte s regs a =
     (pick (eqb a 0x09) (statusByte 0x09 (statusesIn regs s))
     (pick (eqb a 0x0A) (statusByte 0x0A (statusesIn regs s))
     -- "0x0B bits 2:0 (z, y, x) mark the first over axis .., and bit 3 is 1 for a negative difference"
-    (pick (eqb a 0x0B) (motionMarks (s .detectors))
+    (pick (eqb a 0x0B) (marksOf (s .alarms .motion))
+    -- Q-5: "High marks and the sample's sign sit in 0x0C bits 3:0"
+    (pick (eqb a 0x0C) (marksOf (s .alarms .high))
     -- "0x0E is overrun in bit 7, frame count in 6:0"
     (pick (eqb a 0x0E) (statusAt depth (s .fifo))
-    (pick (ltb a 64) (getD regs a 0) 0)))))
+    (pick (ltb a 64) (getD regs a 0) 0))))))
 
 -- both pin levels
 unfoldable pub pinsOf : Device → Pins

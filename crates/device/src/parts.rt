@@ -114,7 +114,7 @@ impl Core {
                     temperature: self.temperature,
                     came: self.came,
                     fifo,
-                    detectors,
+                    alarms: detectors.alarms(),
                 };
                 let locks = !bit(regs[SHADOW_AT], 6);
                 self.channels = burst(channels, locks, inside, regs, address, buffer);
@@ -188,7 +188,7 @@ impl Core {
             temperature: self.temperature,
             came: self.came,
             fifo,
-            detectors,
+            alarms: detectors.alarms(),
         };
         let statuses = statuses_in(regs, inside);
         Pins {

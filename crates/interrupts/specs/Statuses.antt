@@ -20,6 +20,8 @@ unfoldable pub statusesOf : List ℕ → Sources → Statuses
 statusesOf regs s =
     let enables = getD regs enablesAt 0 in
     record {
+      low = s .fell;
+      high = s .hit;
       motion = s .moved;
       -- data: "0x17 bit 4 is 1 and an accepted sample came since the last cycle start or reset"
       ready = both (bit 4 enables) (s .came);

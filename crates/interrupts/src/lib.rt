@@ -11,16 +11,20 @@ use laws::bit;
 use laws::both;
 
 // What the statuses are made of beside the registers: the frame count and the depth, whether an accepted sample came since the
-// last cycle start or reset, and whether the any-motion alarm is set.
+// last cycle start or reset, and whether the alarms of low-g, of high-g and of any-motion are set.
 pub struct Sources {
     pub count: usize,
     pub depth: usize,
     pub came: bool,
+    pub fell: bool,
+    pub hit: bool,
     pub moved: bool,
 }
 
 // The statuses; `ready` is 01's data.
 pub struct Statuses {
+    pub low: bool,
+    pub high: bool,
     pub motion: bool,
     pub ready: bool,
     pub watermark: bool,
@@ -56,6 +60,8 @@ pub fn statuses_of(regs: &[u8; 64], sources: Sources) -> Statuses
 {
     let enables = regs[ENABLES_AT];
     Statuses {
+        low: sources.fell,
+        high: sources.hit,
         motion: sources.moved,
         ready: both(bit(enables, 4), sources.came),
         watermark: both(
@@ -77,7 +83,7 @@ fn weigh(weight: u8, set: bool) -> u8
 pub fn detector_byte(statuses: Statuses) -> u8
     ensures { λ r. ⌜ r ≡ statusByte 0x09 statuses ⌝ }
 {
-    weigh(4, statuses.motion)
+    weigh(1, statuses.low) + (weigh(2, statuses.high) + weigh(4, statuses.motion))
 }
 
 // The byte of 0x0A.
@@ -91,11 +97,13 @@ pub fn data_byte(statuses: Statuses) -> u8
 fn any_mapped(statuses: Statuses, mapped: Statuses) -> bool
     ensures { λ r. ⌜ r ≡ anyMapped statuses mapped allStatuses ⌝ }
 {
+    let low = both(statuses.low, mapped.low);
+    let high = both(statuses.high, mapped.high);
     let motion = both(statuses.motion, mapped.motion);
     let ready = both(statuses.ready, mapped.ready);
     let watermark = both(statuses.watermark, mapped.watermark);
     let full = both(statuses.full, mapped.full);
-    motion | (ready | (watermark | full))
+    low | (high | (motion | (ready | (watermark | full))))
 }
 
 // Which statuses are mapped to a pin.
@@ -104,18 +112,28 @@ fn mapped_to(pin: Pin, regs: &[u8; 64]) -> Statuses
 {
     let maps = regs[0x1A];
     match pin {
-        Pin::Int1 => Statuses {
-            motion: bit(regs[0x19], 2),
-            ready: bit(maps, 0),
-            watermark: bit(maps, 1),
-            full: bit(maps, 2),
-        },
-        Pin::Int2 => Statuses {
-            motion: bit(regs[0x1B], 2),
-            ready: bit(maps, 7),
-            watermark: bit(maps, 6),
-            full: bit(maps, 5),
-        },
+        Pin::Int1 => {
+            let detectors = regs[0x19];
+            Statuses {
+                low: bit(detectors, 0),
+                high: bit(detectors, 1),
+                motion: bit(detectors, 2),
+                ready: bit(maps, 0),
+                watermark: bit(maps, 1),
+                full: bit(maps, 2),
+            }
+        }
+        Pin::Int2 => {
+            let detectors = regs[0x1B];
+            Statuses {
+                low: bit(detectors, 0),
+                high: bit(detectors, 1),
+                motion: bit(detectors, 2),
+                ready: bit(maps, 7),
+                watermark: bit(maps, 6),
+                full: bit(maps, 5),
+            }
+        }
     }
 }
 

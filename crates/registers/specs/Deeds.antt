@@ -6,7 +6,7 @@ use lib.Dec.{eqb}
 use Rattle.laws.specs.Choice.{pick, both, either}
 use Rattle.laws.specs.Lists.{isIn}
 use Rattle.laws.specs.Bits.{bit}
-use Rattle.codes.specs.Addresses.{rangeAt, shadowAt, resetAt, axesAt, latchAt, pointsAt, thresholdAt, controlAt}
+use Rattle.codes.specs.Addresses.{rangeAt, shadowAt, resetAt, axesAt, enablesAt, latchAt, lowDelayAt, lowThresholdAt, hysteresesAt, highDelayAt, highThresholdAt, pointsAt, thresholdAt, controlAt}
 use Rattle.codes.specs.Mode.{modeOf, isReservedMode}
 use Rattle.table.specs.Rows.{rowAt, merged}
 use Rattle.table.specs.declared.Row.{Row}
@@ -28,6 +28,11 @@ isReset a b = both (eqb a resetAt) (eqb b softResetByte)
 abbrev pub motionRestarting : List ℕ
 motionRestarting = rangeAt ∷ axesAt ∷ latchAt ∷ pointsAt ∷ thresholdAt ∷ []
 
+-- Q-5: "an accepted write to 0x0F, 0x17, 0x21 or 0x22 to 0x26 restarts them: status, marks and runs clear"
+abbrev pub gravityRestarting : List ℕ
+gravityRestarting =
+    rangeAt ∷ enablesAt ∷ latchAt ∷ lowDelayAt ∷ lowThresholdAt ∷ hysteresesAt ∷ highDelayAt ∷ highThresholdAt ∷ []
+
 -- what an accepted write does
 unfoldable pub deedsOf : List ℕ → Row → ℕ → ℕ → Deeds
 deedsOf regs r a b = record {
@@ -39,13 +44,13 @@ deedsOf regs r a b = record {
   releases = both (eqb a shadowAt) (bit 6 b);
   -- "0x0F also forgets the previous sample"
   forgets = eqb a rangeAt;
-  restarts = record { motion = isIn motionRestarting a };
+  restarts = record { motion = isIn motionRestarting a; gravity = isIn gravityRestarting a };
   resets = isReset a b;
 }
 
 -- what a refused write does
 abbrev pub noDeeds : Deeds
-noDeeds = record { stores = false; empties = false; releases = false; forgets = false; restarts = record { motion = false }; resets = false }
+noDeeds = record { stores = false; empties = false; releases = false; forgets = false; restarts = record { motion = false; gravity = false }; resets = false }
 
 abbrev pub deedsWhen : Bool → List ℕ → Row → ℕ → ℕ → Deeds
 deedsWhen ok regs r a b = pick ok (deedsOf regs r a b) noDeeds

@@ -7,7 +7,7 @@ use lib.Bits.{bitAnd}
 use Rattle.laws.specs.Choice.{pick, both, either}
 use Rattle.laws.specs.Keys.{Key, _means_, meaningOf}
 use Rattle.laws.specs.Refusals.{AnswerRow, row, first}
-use Rattle.codes.specs.Addresses.{rangeAt, powerAt, axesAt, enablesAt, slowAt, controlAt, framesAt}
+use Rattle.codes.specs.Addresses.{rangeAt, powerAt, axesAt, slowAt, controlAt, framesAt}
 use Rattle.codes.specs.Range.{rangeOf, isReservedRange}
 use Rattle.codes.specs.Mode.{modeOf, isReservedMode}
 use Rattle.table.specs.Rows.{rowAt}
@@ -34,10 +34,10 @@ unfoldable pub notModelled : List ℕ → table.Row → ℕ → ℕ → Bool
 notModelled regs r a b = not (eqb (bitAnd b (r .2)) 0)
 
 -- Q-1, "Tell me which kind of thing the twin lacks .. Split it by register": "11 a detector bit in 0x16 to 0x18; 12 a power mode in
--- 0x11; 13 self-test, memory, calibration or offset in 0x32, 0x33, 0x36, 0x38 to 0x3A". 13 has the other registers of which something
--- is refused
+-- 0x11; 13 self-test, memory, calibration or offset in 0x32, 0x33, 0x36, 0x38 to 0x3A"; Q-5: "11 no longer for 0x17". 13 has the other
+-- registers of which something is refused
 abbrev pub lacks : List (Key Answer)
-lacks = powerAt means NoPowerMode ∷ axesAt means NoDetector ∷ enablesAt means NoDetector ∷ slowAt means NoDetector ∷ []
+lacks = powerAt means NoPowerMode ∷ axesAt means NoDetector ∷ slowAt means NoDetector ∷ []
 
 unfoldable pub lackAt : ℕ → Answer
 lackAt a = meaningOf lacks NoTestOrTrim a

@@ -2,13 +2,18 @@
 ghost use mathlib.Core.Path.{_≡_};
 ghost use Rattle.registers.specs.Answers.{number, place, accepted};
 ghost use Rattle.registers.specs.Refused.{reservedCode, notModelled, lackAt, answerAt, readAnswer};
-ghost use Rattle.registers.specs.Deeds.{isReset, motionRestarting, deedsOf, deedsWhen, judgementAt, judgement};
+ghost use Rattle.registers.specs.Deeds.{isReset, motionRestarting, gravityRestarting, deedsOf, deedsWhen, judgementAt, judgement};
 ghost use Rattle.laws.specs.Lists.{isIn};
 use codes::AXES_AT;
 use codes::CONTROL_AT;
 use codes::ENABLES_AT;
 use codes::FRAMES_AT;
+use codes::HIGH_DELAY_AT;
+use codes::HIGH_THRESHOLD_AT;
+use codes::HYSTERESES_AT;
 use codes::LATCH_AT;
+use codes::LOW_DELAY_AT;
+use codes::LOW_THRESHOLD_AT;
 use codes::POINTS_AT;
 use codes::POWER_AT;
 use codes::RANGE_AT;
@@ -46,9 +51,10 @@ pub enum Answer {
     NoTestOrTrim,
 }
 
-// Which detectors a write starts anew.
+// Which detectors a write starts anew: any-motion; low-g and high-g.
 pub struct Restarts {
     pub motion: bool,
+    pub gravity: bool,
 }
 
 // What a write does: its byte is stored; the FIFO is emptied and its overrun cleared; the locks are released; the previous sample is
@@ -68,7 +74,10 @@ const NO_DEEDS: Deeds = Deeds {
     empties: false,
     releases: false,
     forgets: false,
-    restarts: Restarts { motion: false },
+    restarts: Restarts {
+        motion: false,
+        gravity: false,
+    },
     resets: false,
 };
 
@@ -154,7 +163,6 @@ fn lack_at(address: u8) -> Answer
     match at {
         POWER_AT => Answer::NoPowerMode,
         AXES_AT => Answer::NoDetector,
-        ENABLES_AT => Answer::NoDetector,
         SLOW_AT => Answer::NoDetector,
         _ => Answer::NoTestOrTrim,
     }
@@ -220,6 +228,24 @@ fn restarts_motion(address: u8) -> bool
     }
 }
 
+// Whether low-g and high-g start anew at an accepted write.
+fn restarts_gravity(address: u8) -> bool
+    ensures { λ r. ⌜ r ≡ isIn gravityRestarting address ⌝ }
+{
+    let at = address as usize;
+    match at {
+        RANGE_AT => true,
+        ENABLES_AT => true,
+        LATCH_AT => true,
+        LOW_DELAY_AT => true,
+        LOW_THRESHOLD_AT => true,
+        HYSTERESES_AT => true,
+        HIGH_DELAY_AT => true,
+        HIGH_THRESHOLD_AT => true,
+        _ => false,
+    }
+}
+
 // What an accepted write does.
 fn deeds_of(regs: &[u8; 64], row: Row, address: u8, byte: u8) -> Deeds
     ensures { λ r. ⌜ r ≡ deedsOf (now (regs .entry)) row address byte ⌝ }
@@ -228,6 +254,7 @@ fn deeds_of(regs: &[u8; 64], row: Row, address: u8, byte: u8) -> Deeds
     let resets = is_reset(address, byte);
     let restarts = Restarts {
         motion: restarts_motion(address),
+        gravity: restarts_gravity(address),
     };
     Deeds {
         stores: row.1 != 0,

@@ -10,7 +10,11 @@ any-mapped-spec =
     (λ c κs. tt)
     (λ c κs. tt)
     (λ c κs. tt)
+    (λ c κs. tt)
+    (λ c κs. tt)
     (λ c.
     let watermark = c .before in
     let ready = watermark .before in
-    simp (c .both4 .ensures, watermark .both3 .ensures, ready .both2 .ensures, ready .before .both .ensures, either-false)))
+    let motion = ready .before in
+    let high = motion .before in
+    simp (c .both6 .ensures, watermark .both5 .ensures, ready .both4 .ensures, motion .both3 .ensures, high .both2 .ensures, high .before .both .ensures, either-false)))

@@ -13,8 +13,12 @@ mapped-to-spec =
     (λ c κs. tt)
     (λ c κs. tt)
     (λ c κs. tt)
+    (λ c κs. tt)
+    (λ c κs. tt)
     (λ c. search needs)
     (λ c. search needs)
+    (λ c κs. tt)
+    (λ c κs. tt)
     (λ c κs. tt)
     (λ c κs. tt)
     (λ c κs. tt)
@@ -23,11 +27,15 @@ mapped-to-spec =
     let watermark = c .before in
     let ready = watermark .before in
     let motion = ready .before in
-    let pin = motion .before .before .enum-told .given .1 in
-    (simp (pin, motion .bit .ensures), (simp (pin, ready .bit2 .ensures), (simp (pin, watermark .bit3 .ensures), (simp (pin, c .bit4 .ensures), tt)))))
+    let high = motion .before in
+    let low = high .before in
+    let pin = low .before .before .enum-told .given .1 in
+    (simp (pin, low .bit .ensures), (simp (pin, high .bit2 .ensures), (simp (pin, motion .bit3 .ensures), (simp (pin, ready .bit4 .ensures), (simp (pin, watermark .bit5 .ensures), (simp (pin, c .bit6 .ensures), tt)))))))
     (λ c.
     let watermark = c .before in
     let ready = watermark .before in
     let motion = ready .before in
-    let pin = motion .before .before .enum-told2 .given .1 in
-    (simp (pin, motion .bit5 .ensures), (simp (pin, ready .bit6 .ensures), (simp (pin, watermark .bit7 .ensures), (simp (pin, c .bit8 .ensures), tt))))))
+    let high = motion .before in
+    let low = high .before in
+    let pin = low .before .before .enum-told2 .given .1 in
+    (simp (pin, low .bit7 .ensures), (simp (pin, high .bit8 .ensures), (simp (pin, motion .bit9 .ensures), (simp (pin, ready .bit10 .ensures), (simp (pin, watermark .bit11 .ensures), (simp (pin, c .bit12 .ensures), tt))))))))

@@ -11,4 +11,9 @@ deeds-of-spec =
     (λ c κs. tt)
     (λ c κs. tt)
     (λ c κs. tt)
-    (λ c. let b = c .before in let r = b .before .before in simp (← r .before .is-reset .ensures, ← r .restarts-motion .ensures, ← b .bit .ensures, ← c .both .ensures)))
+    (λ c κs. tt)
+    (λ c.
+    let b = c .before in
+    let g = b .before .before in
+    let m = g .before in
+    simp (← m .before .is-reset .ensures, ← m .restarts-motion .ensures, ← g .restarts-gravity .ensures, ← b .bit .ensures, ← c .both .ensures)))

@@ -11,5 +11,4 @@ lack-at-spec =
     (λ c. simp (c .match .keys1))
     (λ c. simp (c .match .keys2))
     (λ c. simp (c .match .keys3))
-    (λ c. simp (c .match .keys4))
     (λ c. rest _ lacks _ _ (c .match .rest)))

@@ -8,4 +8,5 @@ clock-spec =
     tie.close
     (tie.spec
     (λ c κs. tt)
-    (λ c. simp (c .clock .ensures)))
+    (λ c κs. tt)
+    (λ c. simp (c .clock2 .ensures, c .before .clock .ensures)))

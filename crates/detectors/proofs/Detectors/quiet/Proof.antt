@@ -7,4 +7,5 @@ quiet-spec =
     (tie.spec
     (λ c κs. tt)
     (λ c κs. tt)
-    (λ c. simp (c .quiet .ensures, c .before .none .ensures)))
+    (λ c κs. tt)
+    (λ c. simp (c .quiet2 .ensures, c .before .quiet .ensures, c .before .before .none .ensures)))

@@ -15,15 +15,17 @@ shown-byte-spec =
     (λ c κs. tt)
     (λ c κs. tt)
     (λ c κs. tt)
+    (λ c κs. tt)
     (λ c. search needs)
     (λ c. simp (c .match .keys1))
     (λ c. simp (c .before .before .match .keys2, c .detector-byte .ensures, c .before .statuses-in .ensures))
     (λ c. simp (c .before .before .match .keys3, c .data-byte .ensures, c .before .statuses-in2 .ensures))
-    (λ c. simp (c .before .match .keys4, c .motion-marks .ensures))
-    (λ c. simp (c .before .match .keys5, c .status .ensures))
+    (λ c. simp (c .before .match .keys4, c .marks .ensures))
+    (λ c. simp (c .before .match .keys5, c .marks2 .ensures))
+    (λ c. simp (c .before .match .keys6, c .status .ensures))
     (λ c.
     let r = c .before .before .match .rest in
-    simp (ne-eqb _ _ (r .0 .0 .0 .0 .1), ne-eqb _ _ (r .0 .0 .0 .1), ne-eqb _ _ (r .0 .0 .1), ne-eqb _ _ (r .0 .1), ne-eqb _ _ (r .1), lt-ltb _ _ (c .before .if1 .taken)))
+    simp (ne-eqb _ _ (r .0 .0 .0 .0 .0 .1), ne-eqb _ _ (r .0 .0 .0 .0 .1), ne-eqb _ _ (r .0 .0 .0 .1), ne-eqb _ _ (r .0 .0 .1), ne-eqb _ _ (r .0 .1), ne-eqb _ _ (r .1), lt-ltb _ _ (c .before .if1 .taken)))
     (λ c.
     let r = c .before .match .rest in
-    simp (ne-eqb _ _ (r .0 .0 .0 .0 .1), ne-eqb _ _ (r .0 .0 .0 .1), ne-eqb _ _ (r .0 .0 .1), ne-eqb _ _ (r .0 .1), ne-eqb _ _ (r .1), le-ltb _ _ (c .if1 .left))))
+    simp (ne-eqb _ _ (r .0 .0 .0 .0 .0 .1), ne-eqb _ _ (r .0 .0 .0 .0 .1), ne-eqb _ _ (r .0 .0 .0 .1), ne-eqb _ _ (r .0 .0 .1), ne-eqb _ _ (r .0 .1), ne-eqb _ _ (r .1), le-ltb _ _ (c .if1 .left))))

@@ -10,4 +10,7 @@ pins-spec =
     (λ c κs. tt)
     (λ c κs. tt)
     (λ c κs. tt)
-    (λ c frames. simp (c .pin-level2 .ensures, c .before .pin-level .ensures, c .before .before .statuses-in .ensures)))
+    (λ c κs. tt)
+    (λ c frames.
+    let statuses = c .before .before in
+    simp (c .pin-level2 .ensures, c .before .pin-level .ensures, statuses .statuses-in .ensures, statuses .before .alarms .ensures)))

@@ -23,13 +23,15 @@ returns-2 : tie.Need-returns-2
 returns-2 c =
     let burst = c .before .before in
     let shadow = burst .before .before in
-    let frames = shadow .before .before .before .before in
+    let inside = shadow .before .before in
+    let frames = inside .before .before .before in
     let taken = frames .before .before in
     let accepted = taken .before in
     let f = burst .burst .ensures in
     let e = shadow .bit .ensures in
+    let s = inside .alarms .ensures in
     let start = accepted .before .before .before .args in
-    burst-is (whole (start .self) (now (start .regs)) (now (start .frames))) _ (now (start .buffer)) _ (accepted .before .read-answer .ensures) (sym (accepted .is-accepted .ensures) ∙ taken .if1 .taken) (ne-eqb _ _ (frames .if2 .left)) _ _ (f .0 ∙ rw e) (f .1 ∙ rw e)
+    burst-is (whole (start .self) (now (start .regs)) (now (start .frames))) _ (now (start .buffer)) _ (accepted .before .read-answer .ensures) (sym (accepted .is-accepted .ensures) ∙ taken .if1 .taken) (ne-eqb _ _ (frames .if2 .left)) _ _ (f .0 ∙ rw e) (f .1 ∙ rw (e, s))
 
 returns-3 : tie.Need-returns-3
 returns-3 c =
@@ -43,6 +45,7 @@ read-spec =
     (λ c κs. tt)
     (λ c κs. tt)
     (λ c. search needs)
+    (λ c κs. tt)
     (λ c κs. tt)
     (λ c κs. tt)
     (λ c. search needs)

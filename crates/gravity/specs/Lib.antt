@@ -1,0 +1,4 @@
+pub mod Sizes
+pub mod Low
+pub mod High
+pub mod Gravity
