@@ -6,10 +6,8 @@ use mathlib.Core.Path.{_≡_, refl, sym, ap, _∙_}
 use native.Mathlib.Omega.{arith}
 use lib.ListN.{length, length-append}
 use Rattle.laws.specs.Bits.{bit, worth}
-use Rattle.device.specs.declared.Device.{Device}
-use Rattle.events.specs.Event.{Event, write, clock, bytes, gives}
+use Rattle.events.specs.Event.{Event, write, clock, bytes}
 use Rattle.events.specs.Bank.{stored}
-use Rattle.events.proofs.Runs.{alike-later}
 use Rattle.rules.specs.Shown.{bitSeen}
 use Rattle.paper.proofs.Stored.{stored-is}
 use Rattle.rules.proofs.Registers.{reads-tabled}
@@ -22,7 +20,7 @@ use Rattle.anymotion.specs.Marks.{marksByte}
 use Rattle.anymotion.specs.Held.{ClearsAt, HeldFor}
 use Rattle.anymotion.proofs.Detector.{lawful}
 use Rattle.anymotion.proofs.Promise.{status-seen, reads-marks, marks-apart, clear-exactly}
-use Rattle.anymotion.proofs.Expired.{as-written}
+use Rattle.anymotion.proofs.Expired.{as-written, alike-later, same-shown}
 
 -- where no point counts, fewer samples than N set nothing
 too-few : (es : List Event) → points es ≡ [] → (later : List Event) → samplesOver later < pointsAsked (later ++ es) → bitSeen (later ++ es) 0x09 2 ≡ false
@@ -46,7 +44,7 @@ module _ (es : List Event) (us rest : ℕ) (c : Clears anyMotion es us rest) whe
     runs = too-few (clock us ∷ es) (ap {A = List (Sight OverAxes)} pointsIn (c .left));
     latch = stored es 0x21;
     holds = reads-tabled es 0x21 (omega arith) refl ∙ ap (λ (b : ℕ). bytes (b ∷ [])) (sym (stored-is es 0x21 (omega arith)));
-    no-more = λ later e. ap (λ (d : Device). gives d e) (alike-later later (clock us ∷ es) (write 0x21 (stored es 0x21) ∷ es) (as-written es us (c .expired)));
+    no-more = λ later. same-shown (later ++ (clock us ∷ es)) (later ++ (write 0x21 (stored es 0x21) ∷ es)) (alike-later later (clock us ∷ es) (write 0x21 (stored es 0x21) ∷ es) (as-written es us (c .expired)));
   }
 
 pub held : (es : List Event) (e : Event) (later : List Event) → SetFor anyMotion es e later → HeldFor es e later

@@ -16,6 +16,11 @@ use Rattle.anymotion.specs.Status.{pointsAsked}
 abbrev pub reads : List Event → ℕ → Given
 reads es a = gives (after es) (read a 1)
 
+-- two histories after which any-motion shows the same
+pub record SameShown (es fs : List Event) : Type 0 where
+  pub status : bitSeen es 0x09 2 ≡ bitSeen fs 0x09 2
+  pub marks : reads es 0x0B ≡ reads fs 0x0B
+
 -- "The status clears, with marks and runs": as reads show it, where es came before the clock of us microseconds at which it clears
 pub record ClearsAt (es : List Event) (us : ℕ) : Type 0 where
   -- the status, 0x09 bit 2
@@ -27,11 +32,11 @@ pub record ClearsAt (es : List Event) (us : ℕ) : Type 0 where
   -- "and runs": no point from before counts any more. Whatever comes later, while it brings fewer samples than the N of "N over points in a
   -- row", as it is then in force, the status is not set again
   pub runs : (later : List Event) → samplesOver later < pointsAsked (later ++ (clock us ∷ es)) → bitSeen (later ++ (clock us ∷ es)) 0x09 2 ≡ false
-  -- and nothing else: "An accepted write to .. 0x21 .. clears status, marks and runs" too. Whatever comes later, each event gives
-  -- what it gives where, in the clock's place, the byte that 0x21 holds is written to it again
+  -- and nothing else of it: "An accepted write to .. 0x21 .. clears status, marks and runs" too. Whatever comes later, any-motion shows
+  -- what it shows where, in the clock's place, the byte that 0x21 holds is written to it again
   pub latch : ℕ
   pub holds : reads es 0x21 ≡ bytes (latch ∷ [])
-  pub no-more : (later : List Event) (e : Event) → gives (after (later ++ (clock us ∷ es))) e ≡ gives (after (later ++ (write 0x21 latch ∷ es))) e
+  pub no-more : (later : List Event) → SameShown (later ++ (clock us ∷ es)) (later ++ (write 0x21 latch ∷ es))
 
 -- until the time is reached the status stands, whatever points came; at the clock that reaches it, it is cleared
 pub record HeldFor (es : List Event) (e : Event) (later : List Event) : Type 0 where

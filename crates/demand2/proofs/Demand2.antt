@@ -26,6 +26,9 @@ use Rattle.demand3.specs.Chip.{readOut}
 use Rattle.demand3.specs.Demand.{fates}
 use Rattle.history.specs.History.{accelerometer, saysHere, twin}
 use Rattle.history.proofs.Conserve.{demand3, device-holds}
+use Rattle.lowhigh.proofs.Low.{low-is}
+use Rattle.lowhigh.proofs.High.{high-is}
+use Rattle.lowhigh.proofs.High as high
 use Rattle.anymotion.proofs.Detector.{detector-is}
 use Rattle.anymotion.proofs.Promise.{marks-are}
 use Rattle.rules.specs.Shown.{bitSeen}
@@ -42,8 +45,8 @@ unfolding elsewhere packed statusesOf
 elsewhere-is es = λ i. record {
   count = device-holds es i .count;
   overrun = device-holds es i .overrun;
-  statuses = status 0x09 2 (detector-is es i .alarm .status) ∷ [];
-  marks = 0x0B means marks-are es i ∷ [];
+  statuses = status 0x09 0 (low-is es i) ∷ status 0x09 1 (high-is es i) ∷ status 0x09 2 (detector-is es i .alarm .status) ∷ [];
+  marks = 0x0B means marks-are es i ∷ 0x0C means high.marks-are es i ∷ [];
 }
 
 -- 0x09 and 0x0A bit by bit: the status that shows there, and 0 where none does

@@ -16,7 +16,10 @@ use Rattle.events.specs.Event.{Event, read, bytes, gives}
 use Rattle.events.specs.Run.{after}
 use Rattle.demand3.specs.Demand.{fates}
 use Rattle.history.specs.History.{accelerometer}
-use Rattle.anymotion.specs.Status.{isSet}
+use Rattle.lookback.specs.Seen.{isSet}
+use Rattle.lowhigh.specs.Low.{lowG}
+use Rattle.lowhigh.specs.High.{highG, highMarksByte}
+use Rattle.anymotion.specs.Status.{anyMotion}
 use Rattle.anymotion.specs.Marks.{marksByte}
 use Rattle.rules.specs.Bursts.{isBurst}
 use Rattle.rules.specs.Rules.{status, Elsewhere, ruled, ruledFrom, maps, isOne, someMapped, Leveled}
@@ -30,11 +33,16 @@ elsewhere es = record {
   -- "The overrun bit is 1 exactly when some sample is lost"
   overrun = ltb 0 (length (lostOf (fates accelerometer es)));
   statuses =
+      -- Q-5: "low and high are bits 0 and 1 of 0x09"
+      status 0x09 0 (isSet lowG es) ∷
+      status 0x09 1 (isSet highG es) ∷
       -- "any-motion (0x09 bit 2)"
-      status 0x09 2 (isSet es) ∷ [];
+      status 0x09 2 (isSet anyMotion es) ∷ [];
   marks =
       -- "0x0B bits 2:0 (z, y, x) mark the first over axis .., and bit 3 is 1 for a negative difference"
-      0x0B means marksByte es ∷ [];
+      0x0B means marksByte es ∷
+      -- Q-5: "High marks and the sample's sign sit in 0x0C bits 3:0"
+      0x0C means highMarksByte es ∷ [];
 }
 
 -- the byte that an address below 0x3F reads, after a history

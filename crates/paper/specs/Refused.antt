@@ -28,13 +28,12 @@ abbrev pub oneIn : List ℕ → ℕ → Bool
 oneIn [] b = false
 oneIn (p ∷ ps) b = either (bit p b) (oneIn ps b)
 
--- 11, "a detector bit in 0x16 to 0x18": "a 1 in .. 0x16 bits 7:4, 0x17 bits 3:0, 0x18 bits 2:0"
+-- 11, "a detector bit in 0x16 to 0x18": "a 1 in .. 0x16 bits 7:4, .. 0x18 bits 2:0"; Q-5: "11 no longer for 0x17"
 unfoldable pub isDetectorWrite : ℕ → ℕ → Bool
 isDetectorWrite a b =
     pick (eqb a 0x16) (oneIn (7 ∷ 6 ∷ 5 ∷ 4 ∷ []) b)
-    (pick (eqb a 0x17) (oneIn (3 ∷ 2 ∷ 1 ∷ 0 ∷ []) b)
     (pick (eqb a 0x18) (oneIn (2 ∷ 1 ∷ 0 ∷ []) b)
-    false))
+    false)
 
 -- 12, "a power mode in 0x11": "a 1 in 0x11 bits 7:5"
 unfoldable pub isPowerModeWrite : ℕ → ℕ → Bool

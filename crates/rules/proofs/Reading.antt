@@ -22,7 +22,7 @@ use Rattle.fifo.proofs.Store.{count-few}
 use Rattle.interrupts.specs.Statuses.{reached, statusesOf}
 use Rattle.interrupts.specs.Maps.{allStatuses, statusByte}
 use Rattle.interrupts.specs.declared.Statuses.{Statuses}
-use Rattle.detectors.specs.Detectors.{motionStatus, motionMarks}
+use Rattle.detectors.specs.Detectors.{lowStatus, highStatus, highMarks, motionStatus, motionMarks}
 use Rattle.device.specs.Device.{depth, reg}
 use Rattle.device.specs.Show.{insideOf, statusesIn, shownByte}
 use Rattle.device.specs.Read.{byteFrom, singleByte}
@@ -140,6 +140,11 @@ module _ (es : List Event) where
   unfolding byteFrom shownByte
   reads-marks = single (after es) 0x0B (omega arith)
 
+  -- Q-5: "High marks and the sample's sign sit in 0x0C bits 3:0"
+  pub reads-high-marks : gives (after es) (read 0x0C 1) ≡ bytes (highMarks (after es .detectors) ∷ [])
+  unfolding byteFrom shownByte
+  reads-high-marks = single (after es) 0x0C (omega arith)
+
 -- ---- what a recorder sees, bit by bit: whatever else the byte shows
 module _ (es : List Event) where
   seen : (a : ℕ) → a < 0x3F → byteSeen es a ≡ singleByte (after es) a
@@ -161,6 +166,15 @@ module _ (es : List Event) where
   -- as the rules have it
   pub rule-seen : (a : ℕ) → isIn statusAddresses a ≡ true → (k : ℕ) → bitSeen es a k ≡ holdsAt a k (statusesBy (elsewhereIn (after es)) es)
   rule-seen a m k = status-seen a m k ∙ ap (holdsAt a k) (statuses-are es)
+
+  -- Q-5: "low and high are bits 0 and 1 of 0x09"
+  pub low-seen : bitSeen es 0x09 0 ≡ lowStatus (after es .detectors)
+  unfolding statusesOf
+  low-seen = status-seen 0x09 refl 0
+
+  pub high-seen : bitSeen es 0x09 1 ≡ highStatus (after es .detectors)
+  unfolding statusesOf
+  high-seen = status-seen 0x09 refl 1
 
   -- "any-motion (0x09 bit 2)"
   pub motion-seen : bitSeen es 0x09 2 ≡ motionStatus (after es .detectors)

@@ -79,10 +79,10 @@ module _ (es : List Event) where
   unfolding thePaper theTable
   reads-reserved = reads-constant 0xFF reservedAddresses refl es
 
-  -- "02 to 0C .. (0)", of which 0C has no rule of its own; "Address 14 reads 0"
-  pub reads-nothing : (a : ℕ) → isIn (0x0C ∷ 0x14 ∷ []) a ≡ true → gives (after es) (read a 1) ≡ bytes (0 ∷ [])
+  -- "Address 14 reads 0"
+  pub reads-14 : gives (after es) (read 0x14 1) ≡ bytes (0 ∷ [])
   unfolding thePaper theTable
-  reads-nothing = reads-constant 0 (0x0C ∷ 0x14 ∷ []) refl es
+  reads-14 = reads-constant 0 (0x14 ∷ []) refl es 0x14 refl
 
   -- "33:F4/00", "36:10/00"
   pub reads-33 : gives (after es) (read 0x33 1) ≡ bytes (0xF4 ∷ [])

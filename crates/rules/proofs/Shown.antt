@@ -14,7 +14,7 @@ use Rattle.channels.specs.Channels.{byteAt}
 use Rattle.fifo.specs.Store.{statusAt}
 use Rattle.interrupts.specs.Maps.{StatusPlaces, allStatuses, worthAt, statusByte}
 use Rattle.interrupts.specs.declared.Statuses.{Statuses}
-use Rattle.detectors.specs.Detectors.{motionMarks}
+use Rattle.detectors.specs.Detectors.{motionMarks, highMarks}
 use Rattle.device.specs.Device.{depth, reg}
 use Rattle.device.specs.Show.{insideOf, statusesIn, shownByte}
 use Rattle.device.specs.Read.{byteFrom, singleByte, isData}
@@ -47,7 +47,7 @@ elsewhereIn d = record {
   count = d .fifo .count;
   overrun = d .fifo .overrun;
   statuses = shownIn (statusesIn (d .regs) (insideOf d)) (onlyAt 0x09 allStatuses);
-  marks = 0x0B means motionMarks (d .detectors) ∷ [];
+  marks = 0x0B means motionMarks (d .detectors) ∷ 0x0C means highMarks (d .detectors) ∷ [];
 }
 
 -- ---- the byte of an address

@@ -1,0 +1,80 @@
+-- The stopwatch of a spell says of a run whether a time is reached. Assumes nothing.
+use Prim.Native.Nat.{ℕ, _+_, _-_, _<_, _≤_, min}
+use mathlib.Core.Bool.{Bool, true, false}
+use mathlib.Core.List.{List, [], _∷_}
+use mathlib.Core.Path.{_≡_, refl, sym, _∙_}
+use native.Mathlib.Omega.{arith}
+use borrow.Author.Tests.{eq-eqb, ne-eqb, lt-ltb, le-ltb, leb-true, leb-false}
+use lib.Dec.{eqb, ltb, leb}
+use Rattle.laws.specs.Choice.{pick}
+use Rattle.spell.specs.Stopwatch.{stopped, started, most, longer, goingOn, isReached}
+use Rattle.spell.specs.declared.Stopwatch.{Stopwatch}
+use Rattle.lookback.specs.Sight.{Sight, point, passed}
+use Rattle.lasting.specs.Run.{clockIn, hasPoint, sinceFirst, run, lasted}
+
+module _ {P : Type 0} where
+  pub no-clock : (ss : List (Sight P)) → hasPoint ss ≡ false → clockIn (sinceFirst ss) ≡ 0
+  no-clock [] h = refl
+  no-clock (point p ∷ ss) h = let z : _≡_ {A = ℕ} 0 1 = cc in absurd (omega arith)
+  no-clock (passed us ∷ ss) h = rw h
+
+module _ {P : Type 0} (isMet : P → Bool) where
+  -- the stopwatch after these sights
+  abbrev pub watchOf : List (Sight P) → Stopwatch
+  watchOf [] = stopped
+  watchOf (point p ∷ ss) = pick (isMet p) (goingOn (watchOf ss)) stopped
+  watchOf (passed us ∷ ss) = longer us (watchOf ss)
+
+  -- it runs from the first such sample on, as far as it is counted
+  abbrev countOf : Bool → ℕ → ℕ
+  countOf runs clock = pick runs (1 + min clock (most - 1)) 0
+
+  module _ (ss : List (Sight P)) (w : Stopwatch) (h : w .count ≡ countOf (hasPoint (run isMet ss)) (lasted isMet ss)) where
+    abbrev row : List (Sight P)
+    row = run isMet ss
+
+    -- what it counts, by whether it runs
+    stands : hasPoint row ≡ false → eqb (w .count) 0 ≡ true
+    stands f = eq-eqb (w .count) 0 (h ∙ rw f)
+
+    counts : hasPoint row ≡ true → (w .count ≡ 1 + min (lasted isMet ss) (most - 1)) × (eqb (w .count) 0 ≡ false)
+    counts f =
+        let n : w .count ≡ 1 + min (lasted isMet ss) (most - 1) = h ∙ rw f in
+        (n, ne-eqb (w .count) 0 (omega arith))
+
+    point-on : goingOn w .count ≡ 1 + min (lasted isMet ss) (most - 1)
+    point-on = go (hasPoint row) refl
+      where
+        go : (t : Bool) → hasPoint row ≡ t → goingOn w .count ≡ 1 + min (lasted isMet ss) (most - 1)
+        go true f = let c = counts f in rw (c .1) (c .0)
+        go false f = let n = no-clock row f in rw (stands f, n) (omega arith)
+
+    passed-on : (us : ℕ) → longer us w .count ≡ countOf (hasPoint row) (clockIn (pick (hasPoint row) (passed us ∷ sinceFirst row) []))
+    unfolding longer
+    passed-on us = go (hasPoint row) refl
+      where
+        go : (t : Bool) → hasPoint row ≡ t → pick (eqb (w .count) 0) w (record { count = w .count + min us (most - w .count) }) .count
+            ≡ countOf t (clockIn (pick t (passed us ∷ sinceFirst row) []))
+        go true f = let c = counts f in rw (c .1, c .0) (omega arith)
+        go false f = rw (stands f) (h ∙ rw f)
+
+  counted-point : (p : P) (ss : List (Sight P)) → watchOf ss .count ≡ countOf (hasPoint (run isMet ss)) (lasted isMet ss) → (t : Bool) → isMet p ≡ t
+      → watchOf (point p ∷ ss) .count ≡ countOf (hasPoint (run isMet (point p ∷ ss))) (lasted isMet (point p ∷ ss))
+  counted-point p ss h true e = rw e (point-on ss (watchOf ss) h)
+  counted-point p ss h false e = rw e
+
+  counted : (ss : List (Sight P)) → watchOf ss .count ≡ countOf (hasPoint (run isMet ss)) (lasted isMet ss)
+  counted [] = refl
+  counted (point p ∷ ss) = counted-point p ss (counted ss) (isMet p) refl
+  counted (passed us ∷ ss) = passed-on ss (watchOf ss) (counted ss) us
+
+  -- so far it is counted that every time which is asked for is reached just when the run has lasted for it
+  as-far : (time c : ℕ) → time < most → ltb time (1 + min c (most - 1)) ≡ leb time c
+  as-far time c h = go (leb time c) refl
+    where
+      go : (t : Bool) → leb time c ≡ t → ltb time (1 + min c (most - 1)) ≡ t
+      go true e = let k = leb-true time c e in lt-ltb time (1 + min c (most - 1)) (omega arith)
+      go false e = let k = leb-false time c e in le-ltb time (1 + min c (most - 1)) (omega arith)
+
+  pub reached-is : (time : ℕ) → time < most → (ss : List (Sight P)) → hasPoint (run isMet ss) ≡ true → isReached time (watchOf ss) ≡ leb time (lasted isMet ss)
+  reached-is time h ss f = rw (counted ss, f) (as-far time (lasted isMet ss) h)

@@ -1,0 +1,3 @@
+pub mod Low
+pub mod High
+pub mod Held
