@@ -1,9 +1,9 @@
 -- 01, "Both sides of each edge": the rows P1 to P10, and those of the requests, as one table.
 use Prim.Native.Nat.{ℕ, _+_, _-_}
 use mathlib.Core.List.{List, [], _∷_, _++_}
-use lib.IntN.{ℤ, pos, negsuc}
+use lib.IntN.{ℤ, pos, negsuc, negℤ}
 use Rattle.laws.specs.Table.{upFrom}
-use Rattle.events.specs.Event.{Event, write, read, sample, clock, Given, answer, bytes}
+use Rattle.events.specs.Event.{Event, write, read, sample, cycle, clock, Given, answer, bytes}
 
 -- a step of a row: an event, and what it gives
 pub record Step : Type 0 where
@@ -50,12 +50,15 @@ status byte = read 0x0A 1 ⇒ bytes (byte ∷ []) ∷ []
 abbrev motionWith : ℕ → ℕ → List Step
 motionWith points code = write 0x16 0x01 ⇒ answer 0 ∷ write 0x28 0x01 ⇒ answer 0 ∷ write 0x27 points ⇒ answer 0 ∷ write 0x21 code ⇒ answer 0 ∷ []
 
--- an accepted sample, and a clock, and what 0x09 reads behind it
+-- an event that is answered 0, and what 0x09 reads behind it: any, a sample of x alone, a clock
+abbrev shows : Event → ℕ → List Step
+shows e byte = e ⇒ answer 0 ∷ read 0x09 1 ⇒ bytes (byte ∷ []) ∷ []
+
 abbrev sampled : ℤ → ℕ → List Step
-sampled v byte = x v ⇒ answer 0 ∷ read 0x09 1 ⇒ bytes (byte ∷ []) ∷ []
+sampled v byte = shows (x v) byte
 
 abbrev clocked : ℕ → ℕ → List Step
-clocked us byte = clock us ⇒ answer 0 ∷ read 0x09 1 ⇒ bytes (byte ∷ []) ∷ []
+clocked us byte = shows (clock us) byte
 
 -- both sides of a time in microseconds: one less and then at it; at it; one more; and one less and one more in several
 abbrev limit : ℕ → ℕ → List Step
@@ -64,6 +67,107 @@ limit code time =
     ++ sampled (pos 0) 0x04 ++ clocked time 0x00
     ++ sampled (pos 5) 0x04 ++ clocked (time + 1) 0x00
     ++ sampled (pos 0) 0x04 ++ clocked 1 0x04 ++ clocked (time - 3) 0x04 ++ clocked 1 0x04 ++ clocked 2 0x00
+
+-- ---- low-g and high-g
+-- a negative value, and a sample of y alone and of z alone
+abbrev minus : ℕ → ℤ
+minus n = negℤ (pos n)
+
+abbrev y : ℤ → Event
+y v = sample (pos 0) v (pos 0) 0
+
+abbrev z : ℤ → Event
+z v = sample (pos 0) (pos 0) v 0
+
+-- an accepted write, and what 0x0C reads
+abbrev written : ℕ → ℕ → List Step
+written a byte = write a byte ⇒ answer 0 ∷ []
+
+abbrev marks : ℕ → List Step
+marks byte = read 0x0C 1 ⇒ bytes (byte ∷ []) ∷ []
+
+-- low-g alone, and high-g alone on some axes: with a time in 0x22 or 0x25, a threshold in 0x23 or 0x26, a byte in 0x24 and a code in 0x21
+abbrev lowWith : ℕ → ℕ → ℕ → ℕ → List Step
+lowWith delay threshold modes code = written 0x17 0x08 ++ written 0x22 delay ++ written 0x23 threshold ++ written 0x24 modes ++ written 0x21 code
+
+abbrev highWith : ℕ → ℕ → ℕ → ℕ → ℕ → List Step
+highWith axes delay threshold modes code =
+    written 0x17 axes ++ written 0x25 delay ++ written 0x26 threshold ++ written 0x24 modes ++ written 0x21 code
+
+-- .. for 2 ms below 384, or above 1536, with no hysteresis, non-latched
+abbrev low : List Step
+low = lowWith 0x00 0x30 0x00 0x00
+
+abbrev high : ℕ → List Step
+high axes = highWith axes 0x00 0xC0 0x00 0x00
+
+-- both, where a sample of x is low and high from a size of 1 to one of 383: with their times, and a code in 0x21
+abbrev bothWith : ℕ → ℕ → ℕ → List Step
+bothWith lowDelay highDelay code = lowWith lowDelay 0x30 0x00 code ++ written 0x25 highDelay ++ written 0x26 0x00 ++ written 0x17 0x0F
+
+-- the same sample at both ends of 2 ms: where 0x22 and 0x25 are 0, what 0x09 then reads tells whether it is low, or high. Without hysteresis one that
+-- is not clears what another set
+abbrev through : Event → ℕ → List Step
+through e byte = e ⇒ answer 0 ∷ clock 2000 ⇒ answer 0 ∷ shows e byte
+
+-- both sides of a size, of either sign, on an axis and on each: what 0x09 reads at it, and at one count more
+abbrev sides : (ℤ → Event) → ℕ → ℕ → ℕ → List Step
+sides axis size within beyond =
+    through (axis (pos size)) within ++ through (axis (pos (size + 1))) beyond
+    ++ through (axis (minus size)) within ++ through (axis (minus (size + 1))) beyond
+
+abbrev sidesOfEach : ℕ → ℕ → ℕ → List Step
+sidesOfEach size within beyond = sides x size within beyond ++ sides y size within beyond ++ sides z size within beyond
+
+-- both sides of the size at which it clears, of either sign: set by a size, it stays at the next one and clears at the last
+abbrev clearing : (ℤ → Event) → ℕ → ℕ → ℕ → ℕ → List Step
+clearing axis setting staying cleared byte =
+    through (axis (pos setting)) byte ++ shows (axis (pos staying)) byte ++ shows (axis (pos cleared)) 0x00
+    ++ through (axis (minus setting)) byte ++ shows (axis (minus staying)) byte ++ shows (axis (minus cleared)) 0x00
+
+-- both sides of a time in microseconds from the first sample that is low, or high, with one that clears behind each setting: one less and then at
+-- it; at it; one more; and one less and at it in several
+abbrev lasting : ℤ → ℤ → ℕ → ℕ → List Step
+lasting met far byte time =
+    sampled met 0x00 ++ clocked (time - 1) 0x00 ++ sampled met 0x00 ++ clocked 1 0x00 ++ sampled met byte ++ sampled far 0x00
+    ++ sampled met 0x00 ++ clocked time 0x00 ++ sampled met byte ++ sampled far 0x00
+    ++ sampled met 0x00 ++ clocked (time + 1) 0x00 ++ sampled met byte ++ sampled far 0x00
+    ++ sampled met 0x00 ++ clocked 1 0x00 ++ clocked (time - 3) 0x00 ++ sampled met 0x00 ++ clocked 1 0x00 ++ sampled met 0x00
+    ++ clocked 1 0x00 ++ sampled met byte
+
+-- a run of 2 ms that starts here, whatever was before: both sides of its time
+abbrev anew : ℤ → ℕ → List Step
+anew met byte = sampled met 0x00 ++ clocked 1999 0x00 ++ sampled met 0x00 ++ clocked 1 0x00 ++ sampled met byte
+
+-- a code that knows no time: what is left behind a sample that is far from low, or high
+abbrev standing : ℤ → ℤ → ℕ → ℕ → List Step
+standing met far byte left = through (x met) byte ++ clocked 4294967295 byte ++ sampled far left
+
+-- both sides of a hold in microseconds, whatever samples come; behind it a whole time sets again, and is held for a whole one. Low-g, then high-g
+abbrev holding : ℤ → ℤ → ℕ → ℕ → List Step
+holding met far byte time =
+    through (x met) byte ++ sampled far byte ++ sampled met byte ++ clocked (time - 1) byte ++ sampled met byte ++ clocked 1 0x00
+    ++ anew met byte ++ clocked (time - 1) byte ++ clocked 1 0x00
+
+abbrev eachHolding : ℕ → ℕ → List Step
+eachHolding code time =
+    lowWith 0x00 0x30 0x00 code ++ holding (pos 0) (pos 384) 0x01 time
+    ++ highWith 0x01 0x00 0xC0 0x00 code ++ holding (pos 1537) (pos 1536) 0x02 time
+
+-- with both on: a write that restarts them, in a run and while they are set; and one that does not, answered with a number
+abbrev restartedBy : ℕ → ℕ → ℕ → List Step
+restartedBy code a byte =
+    bothWith 0x00 0x00 code ++ sampled (minus 1) 0x00 ++ clocked 2000 0x00 ++ written a byte ++ anew (minus 1) 0x03 ++ marks 0x09
+    ++ shows (write a byte) 0x00 ++ marks 0x08 ++ anew (minus 1) 0x03
+
+abbrev keptBy : ℕ → ℕ → ℕ → List Step
+keptBy a byte number =
+    bothWith 0x00 0x00 0x00 ++ sampled (minus 1) 0x00 ++ clocked 1999 0x00 ++ (write a byte ⇒ answer number ∷ clocked 1 0x00)
+    ++ sampled (minus 1) 0x03 ++ (write a byte ⇒ answer number ∷ clocked 0 0x03) ++ marks 0x09
+
+-- low-g, high-g and any-motion on x set at one sample, with a code in 0x21
+abbrev allThree : ℕ → List Step
+allThree code = motionWith 0 code ++ bothWith 0x00 0x00 code ++ sampled (pos 1) 0x00 ++ clocked 2000 0x00 ++ sampled (pos 6) 0x07
 
 -- each row starts at a fresh device
 abbrev pub rows : List (List Step)
@@ -95,9 +199,9 @@ rows =
     (write 0x16 0x01 ⇒ answer 0 ∷ write 0x28 0x01 ⇒ answer 0 ∷ write 0x27 0x00 ⇒ answer 0 ∷ x (pos 0) ⇒ answer 0 ∷ x (negsuc 4) ⇒ answer 0 ∷ read 0x0B 1 ⇒ bytes (0x09 ∷ []) ∷ []) ∷
     -- P10 "0x21=01 gives 3, 07 gives 0", with Q-4: "P10's first write gives 0"
     (write 0x21 0x01 ⇒ answer 0 ∷ write 0x21 0x07 ⇒ answer 0 ∷ []) ∷
-    -- Q-1 "11 a detector bit in 0x16 to 0x18"
+    -- Q-1 "11 a detector bit in 0x16 to 0x18"; Q-5 "11 no longer for 0x17"
     eachBit at 0x16 give (11 ∷ 11 ∷ 11 ∷ 11 ∷ 0 ∷ 0 ∷ 0 ∷ 0 ∷ []) leave 0x01 ∷
-    eachBit at 0x17 give (0 ∷ 0 ∷ 0 ∷ 0 ∷ 11 ∷ 11 ∷ 11 ∷ 11 ∷ []) leave 0x10 ∷
+    eachBit at 0x17 give allDone 8 leave 0x01 ∷
     eachBit at 0x18 give (0 ∷ 0 ∷ 0 ∷ 0 ∷ 0 ∷ 11 ∷ 11 ∷ 11 ∷ []) leave 0x08 ∷
     -- Q-1 "12 a power mode in 0x11", also two modes or three at once
     eachBit at 0x11 give (12 ∷ 12 ∷ 12 ∷ 0 ∷ 0 ∷ 0 ∷ 0 ∷ 0 ∷ []) leave 0x00 ∷
@@ -153,4 +257,189 @@ rows =
     ++ sampled (pos 0) 0x04 ++ clocked 249 0x04 ++ clocked 0 0x04 ++ clocked 1 0x00) ∷
     -- clock that passed before the setting does not count
     (motionWith 0 0b1001 ++ sampled (pos 0) 0x00 ++ clocked 249 0x00 ++ sampled (pos 5) 0x04 ++ clocked 249 0x04 ++ clocked 1 0x00) ∷
+    -- Q-5 "every axis size .. is below 8 times 0x23": 8 times 30 is 384, 8 times 01 is 8, 8 times FF is 2040
+    (low ++ sidesOfEach 383 0x01 0x00) ∷
+    (low ++ through (x (pos 0)) 0x01 ++ through (x (minus 2048)) 0x00 ++ through (y (pos 0)) 0x01 ++ through (y (minus 2048)) 0x00
+    ++ through (z (pos 0)) 0x01 ++ through (z (minus 2048)) 0x00) ∷
+    (low ++ through (sample (pos 383) (minus 383) (pos 383) 0) 0x01 ++ through (sample (pos 383) (minus 383) (pos 384) 0) 0x00) ∷
+    (lowWith 0x00 0x01 0x00 0x00 ++ sides x 7 0x01 0x00) ∷
+    (lowWith 0x00 0xFF 0x00 0x00 ++ sidesOfEach 2039 0x01 0x00 ++ through (x (pos 2039)) 0x01 ++ through (x (minus 2048)) 0x00) ∷
+    -- Q-5 "in 2 g counts (count times 1, 2, 4, 8 by range)": 384 is 192 at 4 g, 96 at 8 g and 48 at 16 g; below 8 at 16 g is 0 alone
+    (low ++ written 0x0F 0x05 ++ sidesOfEach 191 0x01 0x00) ∷
+    (low ++ written 0x0F 0x08 ++ sidesOfEach 95 0x01 0x00) ∷
+    (low ++ written 0x0F 0x0C ++ sidesOfEach 47 0x01 0x00 ++ written 0x0F 0x03 ++ sidesOfEach 383 0x01 0x00) ∷
+    (lowWith 0x00 0x01 0x00 0x00 ++ written 0x0F 0x0C ++ sides x 0 0x01 0x00) ∷
+    -- Q-5 "or in sum mode (0x24 bit 2) their sum": one axis alone, and three of which none is near the threshold, at each range
+    (lowWith 0x00 0x30 0x04 0x00 ++ sidesOfEach 383 0x01 0x00) ∷
+    (lowWith 0x00 0x30 0x04 0x00 ++ sides (λ v. sample v (pos 128) (minus 128) 0) 127 0x01 0x00) ∷
+    (lowWith 0x00 0x30 0x04 0x00 ++ written 0x0F 0x05 ++ sides (λ v. sample (pos 64) v (minus 64) 0) 63 0x01 0x00) ∷
+    (lowWith 0x00 0x30 0x04 0x00 ++ written 0x0F 0x08 ++ sides (λ v. sample (minus 32) (pos 32) v 0) 31 0x01 0x00) ∷
+    (lowWith 0x00 0x30 0x04 0x00 ++ written 0x0F 0x0C ++ sides (λ v. sample v (pos 16) (minus 16) 0) 15 0x01 0x00) ∷
+    -- .. and of 8 times 4096, and the largest there is, 8 times 6144
+    (lowWith 0x00 0xFF 0x04 0x00 ++ written 0x0F 0x0C ++ through (x (pos 0)) 0x01 ++ through (sample (minus 2048) (minus 2048) (pos 0) 0) 0x00
+    ++ through (x (pos 0)) 0x01 ++ through (sample (minus 2048) (minus 2048) (minus 2048) 0) 0x00) ∷
+    -- 0x23 = 0: nothing is below 0, with no hysteresis and with the largest, in single mode and in sum mode
+    (lowWith 0x00 0x00 0x00 0x00 ++ through (x (pos 0)) 0x00 ++ through (x (pos 0)) 0x00) ∷
+    (lowWith 0x00 0x00 0x07 0x00 ++ through (x (pos 0)) 0x00 ++ through (x (pos 0)) 0x00) ∷
+    -- Q-5 "at each sample for (0x22 + 1) times 2 ms of clock since the first such sample", as at power-up, where 0x22 is 09 and 0x25 is 0F, and others;
+    -- "Both set only at a sample": behind a clock alone 0x09 is 00
+    (written 0x17 0x08 ++ lasting (pos 383) (pos 512) 0x01 20000) ∷
+    (low ++ lasting (pos 0) (pos 384) 0x01 2000) ∷
+    (lowWith 0x01 0x30 0x00 0x00 ++ lasting (pos 0) (pos 384) 0x01 4000) ∷
+    (lowWith 0xFF 0x30 0x00 0x00 ++ lasting (pos 0) (pos 384) 0x01 512000) ∷
+    -- "since the first such sample": it never sets by itself, nor do others that no clock parts from it; clock before it does not count
+    (low ++ sampled (pos 0) 0x00 ++ sampled (pos 0) 0x00 ++ clocked 0 0x00 ++ sampled (pos 0) 0x00) ∷
+    (low ++ clocked 4294967295 0x00 ++ anew (pos 0) 0x01) ∷
+    (low ++ sampled (pos 384) 0x00 ++ clocked 2000 0x00 ++ anew (pos 0) 0x01) ∷
+    -- .. and however much comes behind it, as 2 to the 33 microseconds, it is the time and more
+    (low ++ sampled (pos 0) 0x00 ++ clocked 4294967295 0x00 ++ clocked 4294967295 0x00 ++ clocked 2 0x00 ++ sampled (pos 0) 0x01) ∷
+    -- "at each sample": the time has passed, but the next one is not low, without hysteresis and in its band
+    (low ++ sampled (pos 0) 0x00 ++ clocked 2000 0x00 ++ sampled (pos 384) 0x00 ++ anew (pos 0) 0x01) ∷
+    (lowWith 0x00 0x30 0x01 0x00 ++ sampled (pos 0) 0x00 ++ clocked 2000 0x00 ++ sampled (pos 384) 0x00 ++ anew (pos 0) 0x01) ∷
+    (lowWith 0x00 0x30 0x01 0x00 ++ sampled (pos 0) 0x00 ++ clocked 2000 0x00 ++ shows (z (minus 511)) 0x00 ++ anew (pos 0) 0x01) ∷
+    -- Q-5 "It clears at a sample where some axis .. is at or above that plus 128 times 0x24 bits 1:0": 384, 512, 640, 768. In the band below it stays
+    (lowWith 0x00 0x30 0xC0 0x00 ++ clearing x 0 383 384 0x01) ∷
+    (lowWith 0x00 0x30 0xC1 0x00 ++ clearing x 0 511 512 0x01 ++ clearing y 0 384 512 0x01 ++ clearing z 0 511 512 0x01) ∷
+    (lowWith 0x00 0x30 0xC2 0x00 ++ clearing x 0 639 640 0x01) ∷
+    (lowWith 0x00 0x30 0x03 0x00 ++ clearing x 0 767 768 0x01) ∷
+    -- .. which are 2 g counts too
+    (lowWith 0x00 0x30 0x01 0x00 ++ written 0x0F 0x05 ++ clearing x 0 255 256 0x01) ∷
+    (lowWith 0x00 0x30 0x01 0x00 ++ written 0x0F 0x08 ++ clearing y 0 127 128 0x01) ∷
+    (lowWith 0x00 0x30 0x01 0x00 ++ written 0x0F 0x0C ++ clearing z 0 63 64 0x01) ∷
+    -- .. 1920 plus 128 is 2048: "The size of -2048 is 2048"
+    (lowWith 0x00 0xF0 0x01 0x00 ++ through (x (pos 0)) 0x01 ++ shows (x (minus 2047)) 0x01 ++ shows (x (minus 2048)) 0x00
+    ++ through (y (pos 0)) 0x01 ++ shows (y (minus 2047)) 0x01 ++ shows (y (minus 2048)) 0x00
+    ++ through (z (pos 0)) 0x01 ++ shows (z (minus 2047)) 0x01 ++ shows (z (minus 2048)) 0x00) ∷
+    -- .. "or the sum", by the mode and never both; 2040 plus 384 is out of reach of an axis at 2 g
+    (lowWith 0x00 0x30 0x01 0x00 ++ through (x (pos 0)) 0x01 ++ shows (sample (pos 511) (minus 511) (pos 511) 0) 0x01) ∷
+    (lowWith 0x00 0x30 0x05 0x00 ++ clearing (λ v. sample v (pos 171) (minus 170) 0) 0 170 171 0x01) ∷
+    (lowWith 0x00 0xFF 0x03 0x00 ++ through (x (pos 0)) 0x01 ++ shows (sample (minus 2048) (minus 2048) (minus 2048) 0) 0x01) ∷
+    (lowWith 0x00 0xFF 0x07 0x00 ++ clearing (λ v. sample v (minus 1024) (pos 1000) 0) 0 399 400 0x01) ∷
+    -- Q-5 "Low is enabled by 0x17 bit 3": by no other bit, and samples before that do not count
+    (written 0x22 0x00 ++ through (x (pos 0)) 0x00 ++ through (x (pos 0)) 0x00) ∷
+    (low ++ written 0x17 0x77 ++ through (x (pos 0)) 0x00 ++ through (x (pos 0)) 0x00) ∷
+    (written 0x22 0x00 ++ sampled (pos 0) 0x00 ++ clocked 2000 0x00 ++ written 0x17 0x08 ++ anew (pos 0) 0x01) ∷
+    -- Q-5 "some enabled axis is above 8 times 0x26": 8 times C0 is 1536; "high by bits 2:0"
+    (high 0x01 ++ sides x 1536 0x00 0x02) ∷
+    (high 0x02 ++ sides y 1536 0x00 0x02) ∷
+    (high 0x04 ++ sides z 1536 0x00 0x02) ∷
+    -- .. "in present counts": at each range
+    (high 0x07 ++ sidesOfEach 1536 0x00 0x02) ∷
+    (high 0x07 ++ written 0x0F 0x05 ++ sidesOfEach 1536 0x00 0x02) ∷
+    (high 0x07 ++ written 0x0F 0x08 ++ sidesOfEach 1536 0x00 0x02) ∷
+    (high 0x07 ++ written 0x0F 0x0C ++ sidesOfEach 1536 0x00 0x02) ∷
+    -- .. the largest threshold, 2040, and the smallest; "The size of -2048 is 2048"
+    (highWith 0x07 0x00 0xFF 0x00 0x00 ++ sidesOfEach 2040 0x00 0x02 ++ through (x (pos 2040)) 0x00 ++ through (x (minus 2048)) 0x02
+    ++ through (y (pos 2040)) 0x00 ++ through (y (minus 2048)) 0x02 ++ through (z (pos 2040)) 0x00 ++ through (z (minus 2048)) 0x02) ∷
+    (highWith 0x07 0x00 0x00 0x00 0x00 ++ sidesOfEach 0 0x00 0x02) ∷
+    -- .. "some": another axis at each sample
+    (high 0x07 ++ shows (x (pos 1537)) 0x00 ++ clocked 1000 0x00 ++ shows (y (minus 1537)) 0x00 ++ clocked 1000 0x00 ++ shows (z (pos 1537)) 0x02) ∷
+    -- .. "enabled": an axis that is not counts neither for above nor for clearing
+    (high 0x01 ++ through (sample (pos 1536) (pos 2047) (minus 2048) 0) 0x00 ++ sampled (pos 1537) 0x00 ++ clocked 2000 0x00
+    ++ shows (y (pos 2047)) 0x00 ++ anew (pos 1537) 0x02 ++ shows (sample (pos 1536) (pos 2047) (minus 2048) 0) 0x00) ∷
+    (high 0x02 ++ through (sample (pos 2047) (pos 1536) (minus 2048) 0) 0x00 ++ through (y (pos 1537)) 0x02
+    ++ shows (sample (pos 2047) (pos 1536) (minus 2048) 0) 0x00) ∷
+    (high 0x04 ++ through (sample (pos 2047) (minus 2048) (pos 1536) 0) 0x00 ++ through (z (pos 1537)) 0x02
+    ++ shows (sample (pos 2047) (minus 2048) (pos 1536) 0) 0x00) ∷
+    (highWith 0x78 0x00 0xC0 0x00 0x00 ++ through (sample (pos 2047) (minus 2048) (pos 2047) 0) 0x00) ∷
+    -- Q-5 "for (0x25 + 1) times 2 ms": as at power-up, where 0x25 is 0F and 0x22 is 09; and others
+    (written 0x17 0x01 ++ lasting (pos 1537) (pos 1280) 0x02 32000) ∷
+    (high 0x01 ++ lasting (pos 1537) (pos 1536) 0x02 2000) ∷
+    (highWith 0x01 0x01 0xC0 0x00 0x00 ++ lasting (pos 1537) (pos 1536) 0x02 4000) ∷
+    (highWith 0x01 0xFF 0xC0 0x00 0x00 ++ lasting (pos 1537) (pos 1536) 0x02 512000) ∷
+    -- the first sample never sets by itself, clock before it does not count, and however much comes behind it is the time and more
+    (high 0x01 ++ sampled (pos 2047) 0x00 ++ sampled (pos 2047) 0x00 ++ clocked 0 0x00 ++ sampled (pos 2047) 0x00) ∷
+    (high 0x01 ++ clocked 4294967295 0x00 ++ sampled (pos 1536) 0x00 ++ clocked 2000 0x00 ++ anew (pos 2047) 0x02) ∷
+    (high 0x01 ++ sampled (pos 2047) 0x00 ++ clocked 4294967295 0x00 ++ clocked 4294967295 0x00 ++ clocked 2 0x00 ++ sampled (pos 2047) 0x02) ∷
+    -- "at each sample": the time has passed, but the next one is not high, without hysteresis and in its band
+    (high 0x01 ++ sampled (pos 2047) 0x00 ++ clocked 2000 0x00 ++ sampled (pos 1536) 0x00 ++ anew (pos 2047) 0x02) ∷
+    (highWith 0x01 0x00 0xC0 0xC0 0x00 ++ sampled (pos 2047) 0x00 ++ clocked 2000 0x00 ++ sampled (minus 1536) 0x00 ++ anew (pos 2047) 0x02) ∷
+    -- Q-5 "it clears when all enabled are at or below that less 128 times 0x24 bits 7:6": 1536, 1408, 1280, 1152, at each range
+    (highWith 0x07 0x00 0xC0 0x03 0x00 ++ clearing x 1537 1537 1536 0x02) ∷
+    (highWith 0x07 0x00 0xC0 0x43 0x00 ++ clearing x 1537 1409 1408 0x02 ++ clearing y 1537 1536 1408 0x02 ++ clearing z 1537 1409 1408 0x02) ∷
+    (highWith 0x07 0x00 0xC0 0x81 0x00 ++ written 0x0F 0x05 ++ clearing y 1537 1281 1280 0x02) ∷
+    (highWith 0x07 0x00 0xC0 0x81 0x00 ++ written 0x0F 0x08 ++ clearing z 1537 1281 1280 0x02) ∷
+    (highWith 0x07 0x00 0xC0 0xC0 0x00 ++ written 0x0F 0x0C ++ clearing x 1537 1153 1152 0x02) ∷
+    -- .. "all": one axis that is not keeps it
+    (highWith 0x07 0x00 0xC0 0x80 0x00 ++ clearing (λ v. sample (pos 1280) (minus 1280) v 0) 1537 1281 1280 0x02) ∷
+    -- .. "never less than 0": 136, 128 and 120 less 128; 128 and 0 less 384
+    (highWith 0x07 0x00 0x11 0x40 0x00 ++ clearing x 137 9 8 0x02) ∷
+    (highWith 0x07 0x00 0x10 0x40 0x00 ++ clearing x 129 1 0 0x02 ++ clearing y 129 1 0 0x02 ++ clearing z 129 1 0 0x02) ∷
+    (highWith 0x07 0x00 0x0F 0x40 0x00 ++ clearing x 121 1 0 0x02 ++ clearing y 121 1 0 0x02 ++ clearing z 121 1 0 0x02) ∷
+    (highWith 0x07 0x00 0x10 0xC0 0x00 ++ clearing x 129 1 0 0x02) ∷
+    (highWith 0x07 0x00 0x00 0xC0 0x00 ++ clearing x 2047 1 0 0x02) ∷
+    -- Q-5 "High marks and the sample's sign sit in 0x0C bits 3:0, kept as any-motion's are": of "the first .. axis (x before y before z) at that point",
+    -- the sample that sets and not the first of the run
+    (high 0x07 ++ shows (x (pos 1537)) 0x00 ++ marks 0x00 ++ clocked 2000 0x00 ++ marks 0x00
+    ++ shows (sample (pos 0) (minus 1537) (pos 1537) 0) 0x02 ++ marks 0x0A) ∷
+    (high 0x07 ++ through (sample (pos 1537) (minus 1537) (minus 1537) 0) 0x02 ++ marks 0x01) ∷
+    (high 0x07 ++ through (sample (minus 1537) (pos 1537) (pos 1537) 0) 0x02 ++ marks 0x09) ∷
+    (high 0x07 ++ through (sample (minus 1536) (pos 1537) (minus 1537) 0) 0x02 ++ marks 0x02) ∷
+    (high 0x07 ++ through (sample (minus 1536) (pos 1536) (pos 1537) 0) 0x02 ++ marks 0x04) ∷
+    (high 0x07 ++ through (z (minus 2048)) 0x02 ++ marks 0x0C) ∷
+    (high 0x06 ++ through (sample (minus 1537) (pos 1537) (pos 1537) 0) 0x02 ++ marks 0x02) ∷
+    -- .. "A status already set is not set again"
+    (high 0x07 ++ through (x (minus 1537)) 0x02 ++ marks 0x09 ++ shows (y (pos 1537)) 0x02 ++ marks 0x09
+    ++ through (y (pos 1537)) 0x02 ++ marks 0x09) ∷
+    -- .. "The marks clear with the status; bit 3 stays until the next setting or soft reset"
+    (high 0x07 ++ through (x (minus 1537)) 0x02 ++ marks 0x09 ++ sampled (pos 1536) 0x00 ++ marks 0x08
+    ++ shows (y (pos 1537)) 0x00 ++ marks 0x08 ++ clocked 2000 0x00 ++ marks 0x08 ++ shows (y (pos 1537)) 0x02 ++ marks 0x02) ∷
+    (high 0x07 ++ through (x (minus 1537)) 0x02 ++ marks 0x09 ++ shows (write 0x14 0xB6) 0x00 ++ marks 0x00 ++ through (x (minus 1537)) 0x00) ∷
+    -- .. in the band they stay; low-g marks nothing, in 0x0C or in 0x0B, and high-g nothing in 0x0B
+    (highWith 0x07 0x00 0xC0 0x80 0x00 ++ through (x (minus 1537)) 0x02 ++ sampled (pos 1281) 0x02 ++ marks 0x09
+    ++ sampled (pos 1280) 0x00 ++ marks 0x08) ∷
+    (low ++ through (x (minus 383)) 0x01 ++ marks 0x00 ++ (read 0x0B 1 ⇒ bytes (0x00 ∷ []) ∷ [])) ∷
+    (high 0x07 ++ through (x (minus 1537)) 0x02 ++ (read 0x0B 1 ⇒ bytes (0x00 ∷ []) ∷ [])) ∷
+    -- Q-5 "Both latch as any-motion does": "Non-latched .. clear it; latched, only the writes below or soft reset do"
+    (lowWith 0x00 0x30 0x01 0b0000 ++ standing (pos 0) (pos 512) 0x01 0x00) ∷
+    (lowWith 0x00 0x30 0x01 0b1000 ++ standing (pos 0) (pos 512) 0x01 0x00) ∷
+    (lowWith 0x00 0x30 0x01 0b0111 ++ standing (pos 0) (pos 512) 0x01 0x01 ++ clocked 4294967295 0x01 ++ shows (write 0x21 0b0111) 0x00) ∷
+    (lowWith 0x00 0x30 0x01 0b1111 ++ standing (pos 0) (pos 512) 0x01 0x01 ++ clocked 4294967295 0x01 ++ shows (write 0x14 0xB6) 0x00) ∷
+    (highWith 0x01 0x00 0xC0 0x80 0b0000 ++ standing (minus 2048) (pos 1280) 0x02 0x00 ++ marks 0x08) ∷
+    (highWith 0x01 0x00 0xC0 0x80 0b1000 ++ standing (minus 2048) (pos 1280) 0x02 0x00 ++ marks 0x08) ∷
+    (highWith 0x01 0x00 0xC0 0x80 0b0111 ++ standing (minus 2048) (pos 1280) 0x02 0x02 ++ marks 0x09 ++ clocked 4294967295 0x02
+    ++ shows (write 0x21 0b0111) 0x00 ++ marks 0x08) ∷
+    (highWith 0x01 0x00 0xC0 0x80 0b1111 ++ standing (minus 2048) (pos 1280) 0x02 0x02 ++ marks 0x09 ++ clocked 4294967295 0x02
+    ++ shows (write 0x14 0xB6) 0x00 ++ marks 0x00) ∷
+    -- .. and with Q-4's holds
+    eachHolding 0b0001 250000 ∷ eachHolding 0b0010 500000 ∷ eachHolding 0b0011 1000000 ∷ eachHolding 0b0100 2000000 ∷ eachHolding 0b0101 4000000 ∷
+    eachHolding 0b0110 8000000 ∷ eachHolding 0b1001 250 ∷ eachHolding 0b1010 500 ∷ eachHolding 0b1011 1000 ∷ eachHolding 0b1100 12500 ∷
+    eachHolding 0b1101 25000 ∷ eachHolding 0b1110 50000 ∷
+    -- Q-4 "clears, with marks and runs": still falling, the clock behind the expiry counts for nothing, in the same clock or in another
+    (lowWith 0x00 0x30 0x00 0b1001 ++ through (x (pos 0)) 0x01 ++ clocked 4294967295 0x00 ++ anew (pos 0) 0x01) ∷
+    (lowWith 0x00 0x30 0x00 0b1100 ++ through (x (pos 0)) 0x01 ++ clocked 12499 0x01 ++ sampled (pos 0) 0x01 ++ clocked 1 0x00
+    ++ clocked 2000 0x00 ++ anew (pos 0) 0x01) ∷
+    (highWith 0x01 0x00 0xC0 0x00 0b1001 ++ through (x (minus 1537)) 0x02 ++ marks 0x09 ++ clocked 249 0x02 ++ marks 0x09
+    ++ clocked 1 0x00 ++ marks 0x08 ++ clocked 4294967295 0x00 ++ anew (pos 1537) 0x02 ++ marks 0x01) ∷
+    -- each its own time of 12.5 ms: of any-motion from 0 us, of low-g from 2000 us, of high-g from 4000 us
+    (motionWith 0 0b1100 ++ bothWith 0x00 0x01 0b1100 ++ sampled (pos 1) 0x00 ++ sampled (pos 6) 0x04 ++ clocked 2000 0x04 ++ sampled (pos 6) 0x05
+    ++ clocked 2000 0x05 ++ sampled (pos 6) 0x07 ++ clocked 8499 0x07 ++ clocked 1 0x03 ++ clocked 1999 0x03 ++ clocked 1 0x02
+    ++ clocked 1999 0x02 ++ clocked 1 0x00) ∷
+    -- Q-5 "low and high are bits 0 and 1 of 0x09": all three at once, and each goes alone: by a calm point, by 384, and by 0
+    (allThree 0b0000 ++ marks 0x01 ++ (read 0x0B 1 ⇒ bytes (0x01 ∷ []) ∷ [])
+    ++ sampled (pos 6) 0x03 ++ sampled (pos 384) 0x06 ++ sampled (pos 0) 0x04 ++ sampled (pos 0) 0x00) ∷
+    -- Q-5 "an accepted write to 0x0F, 0x17, 0x21 or 0x22 to 0x26 restarts them: status, marks and runs clear", also of the same byte
+    restartedBy 0x00 0x0F 0x03 ∷ restartedBy 0x00 0x17 0x0F ∷ restartedBy 0x00 0x21 0x00 ∷ restartedBy 0x00 0x22 0x00 ∷
+    restartedBy 0x00 0x23 0x30 ∷ restartedBy 0x00 0x24 0x00 ∷ restartedBy 0x00 0x25 0x00 ∷ restartedBy 0x00 0x26 0x00 ∷
+    -- .. latched, and held
+    restartedBy 0x07 0x0F 0x03 ∷ restartedBy 0x07 0x17 0x0F ∷ restartedBy 0x07 0x21 0x07 ∷ restartedBy 0x07 0x22 0x00 ∷
+    restartedBy 0x0E 0x23 0x30 ∷ restartedBy 0x0E 0x24 0x00 ∷ restartedBy 0x0E 0x25 0x00 ∷ restartedBy 0x0E 0x26 0x00 ∷
+    -- .. of another byte: another range, of 0x17 bit 6, 5 or 4 alone, the command of 0x21, another threshold, hysteresis and mode
+    restartedBy 0x00 0x0F 0x0C ∷ restartedBy 0x00 0x17 0x4F ∷ restartedBy 0x00 0x17 0x2F ∷ restartedBy 0x00 0x17 0x1F ∷
+    restartedBy 0x07 0x21 0x87 ∷ restartedBy 0x00 0x21 0x01 ∷ restartedBy 0x00 0x23 0xFF ∷ restartedBy 0x00 0x24 0xC7 ∷
+    -- .. and no other write does
+    keptBy 0x16 0x07 0 ∷ keptBy 0x27 0x03 0 ∷ keptBy 0x28 0x00 0 ∷ keptBy 0x13 0x40 0 ∷ keptBy 0x3E 0x40 0 ∷
+    keptBy 0x19 0x03 0 ∷ keptBy 0x1A 0x01 0 ∷ keptBy 0x1B 0x03 0 ∷ keptBy 0x20 0x0F 0 ∷ keptBy 0x10 0x0F 0 ∷
+    keptBy 0x18 0x08 0 ∷ keptBy 0x29 0x00 0 ∷ keptBy 0x30 0x01 0 ∷ keptBy 0x14 0xB5 0 ∷ keptBy 0x0C 0x00 0 ∷
+    -- .. nor one that is refused
+    keptBy 0x0F 0x04 2 ∷ keptBy 0x3E 0xC0 2 ∷ keptBy 0x16 0x80 11 ∷ keptBy 0x62 0x00 1 ∷
+    -- .. nor a sample that is refused, or a cycle start
+    (bothWith 0x00 0x00 0x00 ++ sampled (pos 1) 0x00 ++ clocked 2000 0x00 ++ (x (pos 2048) ⇒ answer 4 ∷ shows cycle 0x00) ++ sampled (pos 1) 0x03
+    ++ (x (pos 2048) ⇒ answer 4 ∷ shows cycle 0x03)) ∷
+    -- a write that restarts any-motion alone leaves them, one that restarts them alone leaves it, and 0x0F and 0x21 restart all three
+    (allThree 0b0111 ++ shows (write 0x28 0x01) 0x03) ∷
+    (allThree 0b0111 ++ shows (write 0x22 0x00) 0x04) ∷
+    (allThree 0b0111 ++ shows (write 0x17 0x0F) 0x04) ∷
+    (allThree 0b0111 ++ shows (write 0x0F 0x03) 0x00) ∷
+    (allThree 0b0111 ++ shows (write 0x21 0b0111) 0x00) ∷
     []

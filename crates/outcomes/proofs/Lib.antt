@@ -8,6 +8,8 @@ pub mod SettledChannels
 pub mod SettledAlarm
 pub mod SettledSlopes
 pub mod SettledMotion
+pub mod SettledSpell
+pub mod SettledGravity
 pub mod SettledDetectors
 pub mod SettledInterrupts
 pub mod SettledDevice

@@ -3,8 +3,7 @@
 use mathlib.Core.Path.{refl}
 use Rattle.laws.specs.Outcome.{Settled}
 use Rattle.detectors.proofs.Detectors.quiet as quiet
-use Rattle.detectors.proofs.Detectors.motion_status as motion-status
-use Rattle.detectors.proofs.Detectors.motion_marks as motion-marks
+use Rattle.detectors.proofs.Detectors.alarms as alarms
 use Rattle.detectors.proofs.Detectors.sample as sample
 use Rattle.detectors.proofs.Detectors.clock as clock
 use Rattle.detectors.proofs.Detectors.after_write as after-write
@@ -13,11 +12,8 @@ use Rattle.outcomes.proofs.Plain.{plain}
 quiet-settled : Settled quiet.ended (λ M. quiet.clauses) (λ M. quiet.spec)
 quiet-settled = plain (λ κs a s s′. refl)
 
-motion-status-settled : Settled motion-status.ended (λ M. motion-status.clauses) (λ M. motion-status.spec)
-motion-status-settled = plain (λ κs a s s′. refl)
-
-motion-marks-settled : Settled motion-marks.ended (λ M. motion-marks.clauses) (λ M. motion-marks.spec)
-motion-marks-settled = plain (λ κs a s s′. refl)
+alarms-settled : Settled alarms.ended (λ M. alarms.clauses) (λ M. alarms.spec)
+alarms-settled = plain (λ κs a s s′. refl)
 
 sample-settled : Settled sample.ended (λ M. sample.clauses) (λ M. sample.spec)
 sample-settled = plain (λ κs a s s′. refl)

@@ -4,8 +4,7 @@ use mathlib.Core.Path.{refl}
 use Rattle.laws.specs.Outcome.{Settled}
 use Rattle.motion.proofs.Settings.points_needed as points-needed
 use Rattle.motion.proofs.Motion.quiet as quiet
-use Rattle.motion.proofs.Motion.is_set as is-set
-use Rattle.motion.proofs.Motion.marks as marks
+use Rattle.motion.proofs.Motion.alarm as alarm
 use Rattle.motion.proofs.Motion.restart as restart
 use Rattle.motion.proofs.Motion.sample as sample
 use Rattle.motion.proofs.Motion.clock as clock
@@ -17,11 +16,8 @@ points-needed-settled = plain (λ κs a s s′. refl)
 quiet-settled : Settled quiet.ended (λ M. quiet.clauses) (λ M. quiet.spec)
 quiet-settled = plain (λ κs a s s′. refl)
 
-is-set-settled : Settled is-set.ended (λ M. is-set.clauses) (λ M. is-set.spec)
-is-set-settled = plain (λ κs a s s′. refl)
-
-marks-settled : Settled marks.ended (λ M. marks.clauses) (λ M. marks.spec)
-marks-settled = plain (λ κs a s s′. refl)
+alarm-settled : Settled alarm.ended (λ M. alarm.clauses) (λ M. alarm.spec)
+alarm-settled = plain (λ κs a s s′. refl)
 
 restart-settled : Settled restart.ended (λ M. restart.clauses) (λ M. restart.spec)
 restart-settled = plain (λ κs a s s′. refl)
