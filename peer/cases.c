@@ -90,7 +90,9 @@ static bool same(const struct peer *a, const struct peer *b)
            memcmp(a->lock, b->lock, sizeof a->lock) == 0 &&
            memcmp(a->locked, b->locked, sizeof a->locked) == 0 && a->fresh_data == b->fresh_data &&
            memcmp(&a->fifo, &b->fifo, sizeof a->fifo) == 0 &&
-           memcmp(&a->motion, &b->motion, sizeof a->motion) == 0;
+           memcmp(&a->motion, &b->motion, sizeof a->motion) == 0 &&
+           memcmp(&a->low, &b->low, sizeof a->low) == 0 &&
+           memcmp(&a->high, &b->high, sizeof a->high) == 0;
 }
 
 static bool pins_are(const struct peer *t, enum peer_level int1, enum peer_level int2)
@@ -260,9 +262,10 @@ static const struct {
     {0x40, 2, 3, "01 3E 80", 1, "00", "01"},   {0x40, 2, 3, "01 3E 80", 3, "40", "03"},
     {0x40, 2, 3, "01 3E 00", 1, "00", "01"},   {0x40, 1, 3, "01 3E 00", 1, "40", "01"},
     {0x00, 2, 2, "01 3E 40", 2, "40", "02"},   {0x40, 2, 2, "01 3E C0", 0, "40", "02"},
-    /* 0x17 bit 6 off, on, refused; data and full beside it */
+    /* 0x17 bit 6 off, on; low-g and high-g, data and full beside it */
     {0x40, 2, 2, "01 17 00", 1, "00", "03"},   {0x40, 2, 2, "01 17 40", 1, "40", "03"},
-    {0x40, 2, 2, "01 17 01", 1, "40", "03"},   {0x40, 2, 2, "01 17 30", 1, "80", "03"},
+    {0x40, 2, 2, "01 17 8F", 1, "00", "03"},   {0x40, 2, 2, "01 18 07", 1, "40", "03"},
+    {0x40, 2, 2, "01 17 4F", 1, "40", "03"},   {0x40, 2, 2, "01 17 30", 1, "80", "03"},
     {0x40, 2, 1, "01 17 70", 1, "C0", "02"},   {0x40, 2, 1, "01 17 70", 31, "E0", "20"},
     {0x40, 2, 1, "01 17 60", 30, "40", "1F"},  {0x40, 2, 1, "01 17 60", 31, "60", "20"},
     {0x80, 32, 1, "01 17 60", 30, "00", "1F"}, {0x80, 32, 1, "01 17 60", 32, "60", "A0"},
@@ -353,7 +356,7 @@ static const struct {
     unsigned number;
 } lacking[] = {
     {0x16, "7654", "3210", 11}, /* detectors */
-    {0x17, "3210", "7654", 11},
+    {0x17, "", "76543210", 11}, /* no more: low-g and high-g are there */
     {0x18, "210", "76543", 11},
     {0x11, "765", "43210", 12}, /* power modes */
     {0x32, "10", "765432", 13}, /* self-test */
@@ -426,19 +429,24 @@ static void register_table(void)
 /* ---- what the twin lacks ---- */
 
 /* A twin in which any effect of a write shows: overrun, each status, a lock on x, and bytes other
-   than those of reset. */
+   than those of reset. What is below 2040 and not 0 is both low and high. */
 static struct peer busy(void)
 {
     struct peer t = fresh(0x16, 0x07);
 
     peer_write(&t, 0x11, 0x1E);
-    peer_write(&t, 0x17, 0x70);
+    peer_write(&t, 0x17, 0x7F);
     peer_write(&t, 0x18, 0x08);
     peer_write(&t, 0x21, 0x0F);
+    peer_write(&t, 0x22, 0x00);
+    peer_write(&t, 0x23, 0xFF);
+    peer_write(&t, 0x25, 0x00);
+    peer_write(&t, 0x26, 0x00);
     peer_write(&t, 0x30, 0x01);
     peer_write(&t, 0x32, 0x04);
-    peer_sample(&t, 0, 0, 0, 1);
-    peer_sample(&t, -2048, 2047, 5, 2);
+    peer_sample(&t, 0, 1, 0, 1);
+    peer_clock(&t, 2000);
+    peer_sample(&t, -2000, 2039, 5, 2);
     reads(&t, 0x02, 1);
     return t;
 }
@@ -465,8 +473,8 @@ static void bits_lacking(void)
             write_gives(address, bit | accepted, bit & refused ? number : 0);
         }
         write_gives(address, 0x00, 0);
-        write_gives(address, refused, number);
-        write_gives(address, 0xFF, number);
+        write_gives(address, refused, refused ? number : 0);
+        write_gives(address, 0xFF, refused ? number : 0);
     }
 }
 
@@ -485,7 +493,7 @@ static void latch_codes(void)
         struct peer t = busy();
         uint8_t got;
 
-        check(peer_write(&t, 0x21, (uint8_t)byte) == 0 && gives(&t, 0x09, "00E008"),
+        check(peer_write(&t, 0x21, (uint8_t)byte) == 0 && gives(&t, 0x09, "00E00808"),
               "21=%02X is 0 and clears", byte);
         check(peer_read(&t, 0x21, &got, 1) == 0 && got == (byte & 0x0F), "21=%02X reads %X", byte,
               byte & 0x0F);
@@ -497,7 +505,7 @@ static void every_write(void)
     struct peer before = busy(), t = before;
     int gone = 0, others = 0, changes = 0;
 
-    check(gives(&t, 0x09, "04E00900FF81"), "the busy twin has each status and overrun set");
+    check(gives(&t, 0x09, "07E00909FF81"), "the busy twin has each status and overrun set");
     for (unsigned address = 0; address < 0x100; address++)
         for (unsigned byte = 0; byte < 0x100; byte++) {
             unsigned answer;
@@ -986,6 +994,7 @@ static void nothing_else(unsigned code, uint32_t time)
     struct peer t = busy(), before;
     uint8_t shown[63 + 192], wanted[63 + 192];
 
+    peer_write(&t, 0x17, 0x70); /* any-motion alone */
     peer_write(&t, 0x21, (uint8_t)code);
     peer_sample(&t, 2047, 2047, 5, 3);
     peer_sample(&t, -2048, 2047, 5, 3);
@@ -1135,6 +1144,851 @@ static void latch_times(void)
     another_code();
 }
 
+/* ---- low-g and high-g ---- */
+
+/* Whether 0x09 and 0x0C have these bytes. */
+static bool shows(struct peer *t, unsigned status, unsigned marks)
+{
+    uint8_t got[4];
+
+    return peer_read(t, 0x09, got, 4) == 0 && got[0] == status && got[3] == marks;
+}
+
+/* One step of a story: AA=BB writes, and AA=BB!N is refused N; x,y,z is a sample; +N a clock of so
+   many microseconds; ?SS/MM asks whether 0x09 is SS and 0x0C is MM. */
+static bool step_holds(struct peer *t, const char *step)
+{
+    unsigned first, second, refusal = 0;
+    int x, y, z;
+
+    if (sscanf(step, "%x=%x!%u", &first, &second, &refusal) >= 2)
+        return peer_write(t, (uint8_t)first, (uint8_t)second) == refusal;
+    if (sscanf(step, "%d,%d,%d", &x, &y, &z) == 3)
+        return peer_sample(t, x, y, z, 0) == 0;
+    if (sscanf(step, "?%x/%x", &first, &second) == 2)
+        return shows(t, first, second);
+    return sscanf(step, "+%u", &first) == 1 && peer_clock(t, first) == 0;
+}
+
+/* A story holds where each of its steps does. It begins with what opening says; both have a blank
+   between steps. */
+static void story(const char *opening, const char *rest)
+{
+    char text[512], *at = text;
+    struct peer t;
+
+    peer_power_up(&t);
+    snprintf(text, sizeof text, "%s %s", opening, rest);
+    while (*at != '\0') {
+        char step[32] = "";
+        int taken = 0;
+
+        sscanf(at, "%31s%n", step, &taken);
+        if (*step != '\0')
+            check(step_holds(&t, step), "%s %s: %s", opening, rest, at);
+        at += taken;
+        at += strspn(at, " ");
+    }
+}
+
+/* Single mode, no hysteresis, 8 times 06 is 48 counts at 2 g, (00 + 1) times 2 ms. */
+#define LOW "24=00 23=06 22=00 17=08"
+#define LOW_SUM "24=04 23=06 22=00 17=08"
+
+/* "every axis size ... is below 8 times 0x23 at each sample" */
+static void low_thresholds(void)
+{
+    story(LOW, "47,47,47 ?00/00 +2000 47,47,47 ?01/00");
+    story(LOW, "-47,-47,-47 +2000 -47,-47,-47 ?01/00");
+    story(LOW, "0,0,0 +2000 0,0,0 ?01/00");
+    story(LOW, "48,0,0 +2000 48,0,0 ?00/00");
+    story(LOW, "0,48,0 +2000 0,48,0 ?00/00");
+    story(LOW, "0,0,48 +2000 0,0,48 ?00/00");
+    story(LOW, "0,0,-48 +2000 0,0,-48 ?00/00");
+    story(LOW, "48,47,47 +2000 0,0,0 ?00/00"); /* the first one */
+    story(LOW, "0,0,0 +2000 47,-48,47 ?00/00"); /* the last one */
+    story(LOW, "0,0,0 +1000 0,0,48 +1000 0,0,0 ?00/00"); /* one between */
+    story(LOW, "0,0,0 +1000 -47,47,47 +1000 0,0,0 ?01/00");
+    /* the reset bytes: 8 times 30 hex is 384, 20 ms */
+    story("17=08", "383,-383,0 +19999 0,383,0 ?00/00 +1 0,0,-383 ?01/00");
+    story("17=08", "384,0,0 +20000 0,0,0 ?00/00");
+    /* nothing is below 0 */
+    story("24=00 23=00 22=00 17=08", "0,0,0 +2000 0,0,0 ?00/00 +4294967295 0,0,0 ?00/00");
+    story("24=04 23=00 22=00 17=08", "0,0,0 +2000 0,0,0 ?00/00");
+    /* without bit 3 of 0x17, with all others */
+    story("24=00 23=06 22=00 17=F7", "0,0,0 +2000 0,0,0 ?00/00 +512000 0,0,0 ?00/00");
+    story("24=00 23=06 22=00 17=00", "0,0,0 +2000 0,0,0 ?00/00");
+}
+
+/* "in sum mode (0x24 bit 2) their sum" of sizes */
+static void low_sums(void)
+{
+    story(LOW, "16,16,16 +2000 16,-16,16 ?01/00"); /* single mode: each is below 48 */
+    story(LOW_SUM, "15,16,16 +2000 -16,-15,16 ?01/00");
+    story(LOW_SUM, "16,16,16 +2000 16,16,16 ?00/00");
+    story(LOW_SUM, "16,-16,-16 +2000 -16,16,-16 ?00/00"); /* no sign takes from another */
+    story(LOW_SUM, "47,-47,0 +2000 0,47,-47 ?00/00");
+    story(LOW_SUM, "47,0,0 +2000 0,0,-47 ?01/00");
+    story(LOW_SUM, "48,0,0 +2000 48,0,0 ?00/00");
+    story(LOW_SUM, "0,0,0 +2000 0,-48,0 ?00/00");
+    /* 8 times FF is 2040; the size of -2048 is 2048, and three of them are above it at any range */
+    story("24=04 23=FF 22=00 17=08", "0,0,-2039 +2000 680,680,679 ?01/00");
+    story("24=04 23=FF 22=00 17=08", "680,680,680 +2000 0,0,0 ?00/00");
+    story("24=04 23=FF 22=00 17=08", "-2048,-2048,-2048 +2000 -2048,-2048,-2048 ?00/00");
+    story("24=04 23=FF 22=00 0F=0C 17=08", "-2048,-2048,-2048 +2000 -2048,-2048,-2048 ?00/00");
+    story("24=00 23=FF 22=00 0F=0C 17=08", "-2048,-2048,-2048 +2000 -2048,-2048,-2048 ?00/00");
+    story("24=00 23=FF 22=00 17=08", "-2048,0,0 +2000 -2048,0,0 ?00/00");
+}
+
+/* "in 2 g counts (count times 1, 2, 4, 8 by range)": against 48, 8 and 2040 */
+static void low_ranges(void)
+{
+    story(LOW " 0F=05", "23,-23,23 +2000 23,23,23 ?01/00"); /* 46 */
+    story(LOW " 0F=05", "24,0,0 +2000 24,0,0 ?00/00");      /* 48 */
+    story(LOW " 0F=08", "11,11,-11 +2000 11,11,11 ?01/00"); /* 44 */
+    story(LOW " 0F=08", "0,12,0 +2000 0,12,0 ?00/00");      /* 48 */
+    story(LOW " 0F=0C", "-5,5,5 +2000 5,5,5 ?01/00");       /* 40 */
+    story(LOW " 0F=0C", "0,0,-6 +2000 0,0,-6 ?00/00");      /* 48 */
+    story(LOW_SUM " 0F=05", "8,8,7 +2000 8,7,8 ?01/00");    /* 46 */
+    story(LOW_SUM " 0F=05", "8,8,8 +2000 8,8,8 ?00/00");    /* 48 */
+    story(LOW_SUM " 0F=08", "4,-4,3 +2000 4,3,4 ?01/00");   /* 44 */
+    story(LOW_SUM " 0F=08", "4,-4,4 +2000 4,4,4 ?00/00");   /* 48 */
+    story(LOW_SUM " 0F=0C", "2,2,-1 +2000 1,2,2 ?01/00");   /* 40 */
+    story(LOW_SUM " 0F=0C", "2,2,-2 +2000 2,2,2 ?00/00");   /* 48 */
+    story("24=00 23=01 22=00 17=08", "7,7,7 +2000 7,7,7 ?01/00");
+    story("24=00 23=01 22=00 17=08", "8,0,0 +2000 8,0,0 ?00/00");
+    story("24=00 23=01 22=00 17=08 0F=0C", "0,0,0 +2000 0,0,0 ?01/00");
+    story("24=00 23=01 22=00 17=08 0F=0C", "1,0,0 +2000 1,0,0 ?00/00"); /* 8 */
+    story("24=00 23=FF 22=00 17=08", "2039,-2039,0 +2000 0,0,2039 ?01/00");
+    story("24=00 23=FF 22=00 17=08", "2040,0,0 +2000 0,0,0 ?00/00");
+    story("24=00 23=FF 22=00 17=08 0F=08", "509,509,509 +2000 509,0,0 ?01/00"); /* 2036 */
+    story("24=00 23=FF 22=00 17=08 0F=08", "510,0,0 +2000 510,0,0 ?00/00");     /* 2040 */
+    story("24=00 23=FF 22=00 17=08 0F=0C", "254,254,254 +2000 -254,0,0 ?01/00"); /* 2032 */
+    story("24=00 23=FF 22=00 17=08 0F=0C", "255,0,0 +2000 255,0,0 ?00/00");      /* 2040 */
+}
+
+/* "for (0x22 + 1) times 2 ms of clock since the first such sample", "Both set only at a sample" */
+static void low_durations(void)
+{
+    story(LOW, "0,0,0 +1999 0,0,0 ?00/00");
+    story(LOW, "0,0,0 +2000 ?00/00 0,0,0 ?01/00");
+    story(LOW, "0,0,0 +2001 0,0,0 ?01/00");
+    story(LOW, "0,0,0 +1999 ?00/00 +1 ?00/00 0,0,0 ?01/00");
+    story(LOW, "0,0,0 +1999 0,0,0 ?00/00 +1 0,0,0 ?01/00");
+    story(LOW, "0,0,0 +1 +1 +1997 0,0,0 ?00/00 +0 0,0,0 ?00/00 +1 0,0,0 ?01/00");
+    story(LOW, "0,0,0 0,0,0 0,0,0 ?00/00 +2000 0,0,0 ?01/00");
+    story(LOW, "+2000 0,0,0 ?00/00 0,0,0 ?00/00 +1999 0,0,0 ?00/00"); /* none before the first */
+    story(LOW, "+4294967295 0,0,0 ?00/00 0,0,0 ?00/00 +1999 0,0,0 ?00/00 +1 0,0,0 ?01/00");
+    story(LOW, "0,0,0 +4294967295 0,0,0 ?01/00");
+    story(LOW, "0,0,0 +4294967295 +1 0,0,0 ?01/00"); /* 2 to the 32 */
+    story(LOW, "0,0,0 +4294967295 +4294967295 +4294967295 +4294967295 0,0,0 ?01/00");
+    story(LOW, "0,0,0 +1000 0,0,0 +4294966296 0,0,0 ?01/00"); /* the sum is 2 to the 32 */
+    story(LOW " 22=01", "0,0,0 +3999 0,0,0 ?00/00 +1 0,0,0 ?01/00");
+    story(LOW " 22=09", "0,0,0 +19999 0,0,0 ?00/00 +1 0,0,0 ?01/00");
+    story(LOW " 22=FF", "0,0,0 +511999 0,0,0 ?00/00 +1 0,0,0 ?01/00");
+    story(LOW " 22=FF", "0,0,0 +511999 ?00/00 0,0,0 +1 0,0,0 ?01/00");
+    story(LOW " 25=FF", "0,0,0 +2000 0,0,0 ?01/00"); /* 0x25 is that of high-g */
+    story(LOW " 22=FF 25=00", "0,0,0 +511999 0,0,0 ?00/00 +1 0,0,0 ?01/00");
+    /* the time passes between samples and the next one decides */
+    story(LOW, "0,0,0 +5000 48,0,0 ?00/00 0,0,0 ?00/00 +1999 0,0,0 ?00/00 +1 0,0,0 ?01/00");
+}
+
+/* "at each sample": a sample that is not low ends the run, and the next low one is the first */
+static void low_runs(void)
+{
+    story(LOW, "0,0,0 +1999 48,0,0 +1 0,0,0 ?00/00 +1999 0,0,0 ?00/00 +1 0,0,0 ?01/00");
+    story(LOW, "0,0,0 +1999 48,0,0 0,0,0 +1 0,0,0 ?00/00 +1998 0,0,0 ?00/00 +1 0,0,0 ?01/00");
+    story(LOW, "0,0,0 +1000 47,47,47 +1000 0,0,0 ?01/00");
+    story(LOW, "0,0,0 +1000 0,0,0 +999 0,0,0 ?00/00 +1 0,0,0 ?01/00");
+    /* what the twin refuses is no sample */
+    struct peer t = fresh(0x17, 0x08);
+
+    peer_write(&t, 0x22, 0x00);
+    sample_x(&t, 0);
+    peer_clock(&t, 1000);
+    check(sample_x(&t, 2048) == 4, "a refused sample in a run");
+    peer_clock(&t, 1000);
+    check(peer_sample(&t, 0, -2049, 0, 0) == 4 && shows(&t, 0, 0), "a refused one sets nothing");
+    check(sample_x(&t, 0) == 0 && shows(&t, 0x01, 0), "nor does it end the run");
+    check(sample_x(&t, 2048) == 4 && shows(&t, 0x01, 0), "nor does it clear");
+    peer_write(&t, 0x22, 0x00);
+    sample_x(&t, 0);
+    peer_clock(&t, 2000);
+    check(peer_cycle_start(&t) == 0 && reads(&t, 0x00, 63) == 0 && reads(&t, 0x3F, 12) == 0 &&
+              sample_x(&t, 0) == 0 && shows(&t, 0x01, 0),
+          "nor do a cycle start and reads");
+    check(peer_cycle_start(&t) == 0 && reads(&t, 0x00, 63) == 0 && shows(&t, 0x01, 0),
+          "nor do they clear");
+}
+
+/* "It clears at a sample where some axis, or the sum, is at or above that plus 128 times 0x24 bits
+   1:0": 48, 176, 304 and 432 at 2 g. Set, then these. */
+#define SET_LOW "0,0,0 +2000 0,0,0 ?01/00"
+
+static void low_hysteresis(void)
+{
+    story(LOW, SET_LOW " 47,47,47 ?01/00 48,0,0 ?00/00");
+    story(LOW, SET_LOW " 0,0,-48 ?00/00");
+    story(LOW " 24=01", SET_LOW " 48,0,0 ?01/00 175,-175,175 ?01/00 0,176,0 ?00/00");
+    story(LOW " 24=02", SET_LOW " 0,0,303 ?01/00 0,0,304 ?00/00");
+    story(LOW " 24=03", SET_LOW " 431,0,0 ?01/00 -432,0,0 ?00/00");
+    story(LOW " 24=C0", SET_LOW " 48,0,0 ?00/00"); /* bits 7:6 are those of high-g */
+    story(LOW " 24=41", SET_LOW " 175,0,0 ?01/00 176,0,0 ?00/00");
+    story(LOW " 24=FB", SET_LOW " 431,0,0 ?01/00 432,0,0 ?00/00"); /* bits 5:3 are ignored */
+    story(LOW " 24=04", SET_LOW " 15,16,16 ?01/00 16,-16,16 ?00/00");
+    story(LOW " 24=05", SET_LOW " 59,58,-58 ?01/00 59,-58,59 ?00/00"); /* 175, 176 */
+    story(LOW " 24=07", SET_LOW " 144,144,143 ?01/00 144,144,144 ?00/00"); /* 431, 432 */
+    story(LOW " 24=05", SET_LOW " 0,0,175 ?01/00 0,0,176 ?00/00");
+    story(LOW " 24=01 0F=05", SET_LOW " 87,0,0 ?01/00 88,0,0 ?00/00"); /* 174, 176 */
+    story(LOW " 24=01 0F=08", SET_LOW " 0,43,0 ?01/00 0,44,0 ?00/00"); /* 172, 176 */
+    story(LOW " 24=01 0F=0C", SET_LOW " 0,0,21 ?01/00 0,0,22 ?00/00"); /* 168, 176 */
+    story(LOW " 24=07 0F=0C", SET_LOW " 18,18,17 ?01/00 18,18,18 ?00/00"); /* 424, 432 */
+    /* 2040 and 384 are 2424, which no axis reaches at 2 g; at 4 g 1212 does */
+    story(LOW " 24=03 23=FF", SET_LOW " -2048,-2048,-2048 ?01/00");
+    story(LOW " 24=07 23=FF", SET_LOW " 808,808,807 ?01/00 808,808,808 ?00/00");
+    story(LOW " 24=03 23=FF 0F=05", SET_LOW " 1211,0,0 ?01/00 1212,0,0 ?00/00");
+    story(LOW " 24=02 23=FF", SET_LOW " -2048,0,0 ?01/00");
+    story(LOW " 24=00 23=FF", SET_LOW " 0,-2048,0 ?00/00");
+    story(LOW " 24=01 23=F0", SET_LOW " 2047,2047,2047 ?01/00 0,0,-2048 ?00/00"); /* 2048 */
+}
+
+/* Between the threshold and the threshold plus the hysteresis the run ends and the status stays. */
+static void low_band(void)
+{
+    story(LOW " 24=01", "0,0,0 +1000 48,0,0 +1000 0,0,0 ?00/00 +1999 0,0,0 ?00/00 +1 0,0,0 ?01/00");
+    story(LOW " 24=01", "0,0,0 +2000 100,0,0 ?00/00 0,0,0 ?00/00");
+    story(LOW " 24=01", "48,0,0 +2000 48,0,0 ?00/00");
+    story(LOW " 24=01", SET_LOW " 100,0,0 ?01/00 0,0,0 ?01/00 175,0,0 ?01/00 +512000 100,0,0 ?01/00"
+                                " 176,0,0 ?00/00 100,0,0 ?00/00 0,0,0 +1999 0,0,0 ?00/00");
+    story(LOW, SET_LOW " 48,0,0 ?00/00 0,0,0 ?00/00 +1999 0,0,0 ?00/00 +1 0,0,0 ?01/00");
+}
+
+/* Each axis by itself, above 8 times 06, which is 48; (00 + 1) times 2 ms. */
+#define HIGH(enable) "24=00 26=06 25=00 17=" enable
+
+/* "at each sample some enabled axis is above 8 times 0x26 in present counts" */
+static void high_thresholds(void)
+{
+    story(HIGH("01"), "49,0,0 ?00/00 +2000 49,0,0 ?02/01");
+    story(HIGH("01"), "48,0,0 +2000 48,0,0 ?00/00");
+    story(HIGH("01"), "-49,0,0 +2000 -49,0,0 ?02/09");
+    story(HIGH("01"), "-48,0,0 +2000 -48,0,0 ?00/00");
+    story(HIGH("02"), "0,49,0 +2000 0,49,0 ?02/02");
+    story(HIGH("04"), "0,0,-49 +2000 0,0,-49 ?02/0C");
+    story(HIGH("01"), "48,2047,-2048 +2000 -48,2047,2047 ?00/00"); /* not enabled */
+    story(HIGH("02"), "2047,48,-2048 +2000 2047,-48,2047 ?00/00");
+    story(HIGH("04"), "-2048,2047,48 +2000 -2048,2047,48 ?00/00");
+    story(HIGH("00"), "2047,2047,2047 +2000 2047,2047,2047 ?00/00");
+    story(HIGH("78"), "2047,2047,2047 +2000 2047,2047,2047 ?00/00");
+    story(HIGH("07"), "48,48,-48 +2000 49,49,49 ?00/00"); /* the first one */
+    story(HIGH("07"), "49,0,0 +2000 48,48,48 ?00/00");    /* the last one */
+    story(HIGH("07"), "49,0,0 +1000 0,0,48 +1000 49,0,0 ?00/00");
+    /* the counts are those of the range, whatever it is */
+    story(HIGH("01") " 0F=05", "48,0,0 +2000 48,0,0 ?00/00 49,0,0 +2000 49,0,0 ?02/01");
+    story(HIGH("01") " 0F=08", "48,0,0 +2000 48,0,0 ?00/00 49,0,0 +2000 49,0,0 ?02/01");
+    story(HIGH("01") " 0F=0C", "48,0,0 +2000 48,0,0 ?00/00 49,0,0 +2000 49,0,0 ?02/01");
+    /* 2040 and 0; the size of -2048 is 2048 */
+    story(HIGH("07") " 26=FF", "2040,-2040,2040 +2000 2040,0,0 ?00/00");
+    story(HIGH("07") " 26=FF", "2041,0,0 +2000 0,0,-2041 ?02/0C");
+    story(HIGH("07") " 26=FF", "-2048,0,0 +2000 0,-2048,0 ?02/0A");
+    story(HIGH("07") " 26=FF", "-2048,-2048,-2048 +2000 -2048,-2048,-2048 ?02/09");
+    story(HIGH("07") " 26=00", "0,0,0 +2000 0,0,0 ?00/00");
+    story(HIGH("07") " 26=00", "0,0,1 +2000 0,-1,0 ?02/0A");
+    /* the reset bytes: 8 times C0 hex is 1536, 32 ms */
+    story("17=01", "1536,0,0 +32000 1536,0,0 ?00/00");
+    story("17=01", "1537,0,0 +31999 1537,0,0 ?00/00 +1 1537,0,0 ?02/01");
+}
+
+/* "some enabled axis": not the same one at each sample. The first above at the setting sample is
+   marked, x before y before z, and the sign is its own. */
+static void high_marks(void)
+{
+    story(HIGH("07"), "49,0,0 +2000 0,49,0 ?02/02");
+    story(HIGH("07"), "0,0,49 +1000 49,0,0 +1000 0,-49,0 ?02/0A");
+    story(HIGH("07"), "-49,0,0 +2000 0,0,49 ?02/04"); /* neither axis nor sign of the first */
+    story(HIGH("07"), "0,0,49 +2000 -49,49,49 ?02/09");
+    story(HIGH("07"), "0,0,49 +2000 48,49,-49 ?02/02");
+    story(HIGH("07"), "49,0,0 +2000 -48,-48,49 ?02/04"); /* the sign of an axis that is not above */
+    story(HIGH("06"), "0,49,0 +2000 -2048,0,49 ?02/04");
+    story(HIGH("05"), "49,0,0 +2000 0,-2048,-49 ?02/0C");
+    story(HIGH("03"), "0,49,0 +2000 0,49,-2048 ?02/02");
+    story(HIGH("06"), "2047,49,0 +1000 2047,48,48 +1000 2047,49,0 ?00/00");
+    /* a status already set is not set again */
+    story(HIGH("07"), "49,0,0 +2000 49,0,0 ?02/01 0,-49,0 ?02/01 +2000 0,0,-49 ?02/01");
+    /* the marks go with the status, the sign stays until the next setting or soft reset */
+    story(HIGH("07"), "0,-49,0 +2000 0,-49,0 ?02/0A 48,48,48 ?00/08 49,0,0 ?00/08 +2000 49,0,0 ?02/01");
+    story(HIGH("07"), "0,-49,0 +2000 0,-49,0 25=00 ?00/08 49,0,0 +1999 49,0,0 ?00/08 +1 0,49,0 ?02/02");
+    story(HIGH("07"), "0,-49,0 +2000 0,-49,0 17=00 ?00/08 0F=03 ?00/08 14=B5 ?00/08 14=B6 ?00/00");
+    story(HIGH("07"), "0,-49,0 +2000 0,-49,0 ?02/0A 14=B6 ?00/00");
+}
+
+/* "for (0x25 + 1) times 2 ms" */
+static void high_durations(void)
+{
+    story(HIGH("01"), "49,0,0 +1999 49,0,0 ?00/00");
+    story(HIGH("01"), "49,0,0 +2000 ?00/00 49,0,0 ?02/01");
+    story(HIGH("01"), "49,0,0 +2001 49,0,0 ?02/01");
+    story(HIGH("01"), "49,0,0 +1999 ?00/00 +1 ?00/00 49,0,0 ?02/01");
+    story(HIGH("01"), "49,0,0 +1 +1998 49,0,0 ?00/00 +0 49,0,0 ?00/00 +1 49,0,0 ?02/01");
+    story(HIGH("01"), "+4294967295 49,0,0 ?00/00 49,0,0 ?00/00 +1999 49,0,0 ?00/00");
+    story(HIGH("01"), "49,0,0 +4294967295 +1 49,0,0 ?02/01");
+    story(HIGH("01"), "49,0,0 +1000 49,0,0 +4294966296 49,0,0 ?02/01");
+    story(HIGH("01"), "49,0,0 +4294967295 +4294967295 49,0,0 ?02/01");
+    story(HIGH("01") " 25=01", "49,0,0 +3999 49,0,0 ?00/00 +1 49,0,0 ?02/01");
+    story(HIGH("01") " 25=FF", "49,0,0 +511999 49,0,0 ?00/00 +1 49,0,0 ?02/01");
+    story(HIGH("01") " 22=FF", "49,0,0 +1999 49,0,0 ?00/00 +1 49,0,0 ?02/01"); /* that of low-g */
+    story(HIGH("01") " 22=00 25=0F", "49,0,0 +31999 49,0,0 ?00/00 +1 49,0,0 ?02/01");
+    story(HIGH("01"), "49,0,0 +5000 48,0,0 ?00/00 49,0,0 ?00/00 +1999 49,0,0 ?00/00 +1 49,0,0 ?02/01");
+    story(HIGH("01"), "49,0,0 +1999 48,0,0 +1 49,0,0 ?00/00 +1999 49,0,0 ?00/00 +1 49,0,0 ?02/01");
+}
+
+/* "it clears when all enabled are at or below that less 128 times 0x24 bits 7:6, never less than
+   0": of 512 counts, 512, 384, 256 and 128. */
+#define SET_HIGH "513,0,0 +2000 513,0,0 ?02/01"
+
+static void high_hysteresis(void)
+{
+    story(HIGH("01") " 26=40", SET_HIGH " 513,0,0 ?02/01 512,0,0 ?00/00");
+    story(HIGH("01") " 26=40 24=40", SET_HIGH " 512,0,0 ?02/01 385,0,0 ?02/01 384,0,0 ?00/00");
+    story(HIGH("01") " 26=40 24=80", SET_HIGH " -257,0,0 ?02/01 -256,0,0 ?00/00");
+    story(HIGH("01") " 26=40 24=C0", SET_HIGH " 129,0,0 ?02/01 -128,0,0 ?00/00");
+    story(HIGH("01") " 26=40 24=07", SET_HIGH " 512,0,0 ?00/00"); /* bits 2:0 are those of low-g */
+    story(HIGH("01") " 26=40 24=3F", SET_HIGH " 512,0,0 ?00/00"); /* bits 5:3 are ignored */
+    story(HIGH("01") " 26=40 24=43", SET_HIGH " 385,0,0 ?02/01 384,0,0 ?00/00");
+    story(HIGH("01") " 26=40 24=40 0F=0C", SET_HIGH " 385,0,0 ?02/01 384,0,0 ?00/00");
+    /* all enabled, and no other */
+    story(HIGH("03") " 26=40 24=40", SET_HIGH " 0,385,0 ?02/01 384,-385,0 ?02/01 384,384,2047 ?00/00");
+    story(HIGH("07") " 26=40 24=40", SET_HIGH " 0,0,-385 ?02/01 384,-384,384 ?00/00");
+    story(HIGH("01") " 26=40 24=40", SET_HIGH " 384,2047,-2048 ?00/00");
+    story(HIGH("05") " 26=40 24=40", SET_HIGH " 384,-2048,385 ?02/01 384,-2048,384 ?00/00");
+    /* never less than 0: there all enabled are 0 */
+    story(HIGH("03") " 26=01 24=40", "9,0,0 +2000 9,0,0 ?02/01 1,0,0 ?02/01 0,-1,0 ?02/01 0,0,9 ?00/00");
+    story(HIGH("01") " 26=01 24=C0", "9,0,0 +2000 9,0,0 ?02/01 8,0,0 ?02/01 -1,0,0 ?02/01 0,0,0 ?00/00");
+    story(HIGH("01") " 26=10 24=40", "129,0,0 +2000 129,0,0 ?02/01 1,0,0 ?02/01 0,0,0 ?00/00");
+    story(HIGH("01") " 26=11 24=40", "137,0,0 +2000 137,0,0 ?02/01 9,0,0 ?02/01 8,0,0 ?00/00");
+    story(HIGH("01") " 26=0F 24=40", "121,0,0 +2000 121,0,0 ?02/01 1,0,0 ?02/01 0,0,0 ?00/00");
+    story(HIGH("01") " 26=00 24=00", "1,0,0 +2000 1,0,0 ?02/01 0,2047,0 ?00/00");
+    story(HIGH("01") " 26=00 24=C0", "1,0,0 +2000 -1,0,0 ?02/09 1,0,0 ?02/09 0,0,0 ?00/08");
+    /* 2040 less 384 is 1656 */
+    story(HIGH("01") " 26=FF 24=C0", "-2048,0,0 +2000 -2048,0,0 ?02/09 1657,0,0 ?02/09 -1656,0,0 ?00/08");
+}
+
+/* Between both levels the run ends and the status stays. */
+static void high_band(void)
+{
+    story(HIGH("01") " 26=40 24=40", "513,0,0 +1000 512,0,0 +1000 513,0,0 ?00/00 +1999 513,0,0 ?00/00 "
+                                     "+1 513,0,0 ?02/01");
+    story(HIGH("01") " 26=40 24=40", "513,0,0 +2000 400,0,0 ?00/00 513,0,0 ?00/00");
+    story(HIGH("01") " 26=40 24=40", "400,0,0 +2000 400,0,0 ?00/00");
+    story(HIGH("01") " 26=40 24=40", SET_HIGH " 400,0,0 ?02/01 -513,0,0 ?02/01 400,0,0 +512000 "
+                                              "400,0,0 ?02/01 384,0,0 ?00/00 400,0,0 ?00/00");
+    story(HIGH("01") " 26=40 24=40", SET_HIGH " 384,0,0 ?00/00 513,0,0 ?00/00 +1999 513,0,0 ?00/00 "
+                                              "+1 -513,0,0 ?02/09");
+}
+
+/* Below 2040 and not 0 is both low and high, and it takes as long. */
+#define BOTH "24=00 23=FF 26=00 22=00 25=00 17=0F"
+#define SET_BOTH "0,-5,0 +2000 0,-5,0 ?03/0A"
+
+/* "Both latch as any-motion does": 0000 and 1000 are non-latched, 0111 and 1111 latched. */
+static void g_latches(void)
+{
+    story(BOTH " 21=00", SET_BOTH " 0,0,0 ?01/08 2047,2047,2047 ?00/08");
+    story(BOTH " 21=08", SET_BOTH " 0,0,0 ?01/08 2047,2047,2047 ?00/08");
+    story(BOTH " 21=80", SET_BOTH " 0,2040,0 ?02/0A +4294967295 ?02/0A 0,0,0 ?00/08");
+    story(BOTH " 21=07", SET_BOTH " 0,0,0 ?03/0A 2047,2047,2047 ?03/0A +4294967295 0,0,0 ?03/0A");
+    story(BOTH " 21=0F", SET_BOTH " 0,0,0 ?03/0A 2047,2047,2047 ?03/0A 1,0,0 +2000 1,0,0 ?03/0A");
+    story(BOTH " 21=0F", SET_BOTH " 0,0,0 21=0F ?00/08 1,0,0 ?00/08 +2000 1,0,0 ?03/01");
+    story(BOTH " 21=07", SET_BOTH " 21=00 ?00/08 1,0,0 +2000 1,0,0 ?03/01 0,0,0 ?01/00");
+}
+
+/* The times of Q-4: neither calm nor low or high samples move the end, which ends the run too. */
+static void g_holds(void)
+{
+    story(BOTH " 21=09", SET_BOTH " +249 ?03/0A +1 ?00/08");
+    story(BOTH " 21=09", SET_BOTH " +250 ?00/08");
+    story(BOTH " 21=09", SET_BOTH " +251 ?00/08 +4294967295 ?00/08");
+    story(BOTH " 21=09", SET_BOTH " +4294967295 ?00/08");
+    story(BOTH " 21=09", SET_BOTH " 0,0,0 2047,2047,2047 ?03/0A +249 0,0,0 2047,2047,2047 ?03/0A +1 ?00/08");
+    story(BOTH " 21=09", SET_BOTH " 0,-5,0 +249 0,-5,0 ?03/0A +1 ?00/08");
+    /* still falling at the end: the next sample is the first of a new run */
+    story(BOTH " 21=09", SET_BOTH " +250 0,-5,0 ?00/08 +1999 0,-5,0 ?00/08 +1 0,-5,0 ?03/0A +250 ?00/08");
+    story(BOTH " 21=09", SET_BOTH " +2250 0,-5,0 ?00/08 +1999 0,-5,0 ?00/08 +1 0,5,0 ?03/02");
+    story(BOTH " 21=09", SET_BOTH " +4294967295 0,-5,0 ?00/08 +1999 0,-5,0 ?00/08 +1 0,-5,0 ?03/0A");
+    story(BOTH " 21=01", SET_BOTH " +249999 0,-5,0 ?03/0A +1 ?00/08 0,-5,0 ?00/08 +2000 0,-5,0 ?03/0A");
+    story(BOTH " 21=06", SET_BOTH " 0,0,0 +7999999 0,-5,0 ?03/0A +1 0,-5,0 ?00/08 +1999 0,-5,0 ?00/08");
+    /* a hold shorter than the run, and a clock before the setting that counts for no hold */
+    story(BOTH " 21=0A 22=01", "1,0,0 +2000 1,0,0 ?02/01 +500 1,0,0 ?00/00 +1499 1,0,0 ?00/00 "
+                               "+1 1,0,0 ?01/00 +499 1,0,0 ?01/00 +1 1,0,0 ?02/01");
+}
+
+/* "each with its own remaining time": of 1 ms; low-g from 2000 to 3000, high-g from 2500 to 3500 and
+   any-motion, over above 4, from 2600 to 3600. */
+static void g_own_times(void)
+{
+    story(BOTH " 21=0B 16=01 28=01", "0,0,0 +500 1,0,0 +1500 1,0,0 ?01/00 +500 1,0,0 ?03/01 "
+                                     "+100 9,0,0 ?07/01 +399 ?07/01 +1 ?06/01 +499 ?06/01 +1 ?04/00 "
+                                     "+99 ?04/00 +1 ?00/00");
+    story(BOTH " 21=0B 16=01 28=01", "0,0,0 +500 1,0,0 +1500 1,0,0 +500 1,0,0 +100 9,0,0 ?07/01 "
+                                     "+900 ?04/00 +100 ?00/00");
+    /* the end of one leaves the run of the other */
+    story(BOTH " 21=09 25=01", "1,0,0 +2000 1,0,0 ?01/00 +250 ?00/00 +1750 -1,0,0 ?02/09");
+    story(BOTH " 21=09 22=01", "1,0,0 +2000 1,0,0 ?02/01 +250 ?00/00 +1750 -1,0,0 ?01/00");
+    story(BOTH " 21=0C 17=08", "1,0,0 +2000 1,0,0 ?01/00 +12499 ?01/00 +1 ?00/00");
+    story(BOTH " 21=0C 17=04", "0,0,-1 +2000 0,0,-1 ?02/0C +12499 ?02/0C +1 ?00/08");
+    /* the end of any-motion's hold leaves both runs, and their holds leave any-motion's run */
+    story(BOTH " 21=09 16=01 28=01", "0,0,0 9,0,0 ?04/00 +250 ?00/00 9,0,0 +1750 9,0,0 ?03/01");
+    story(BOTH " 21=09 16=01 28=01 27=01", "1,0,0 +2000 9,0,0 ?03/01 +250 ?00/00 1,0,0 ?04/00");
+}
+
+/* "an accepted write to 0x0F, 0x17, 0x21 or 0x22 to 0x26 restarts them: status, marks and runs
+   clear", of both, with the same byte or another. */
+static const char *const g_restarts[] = {
+    "0F=03", "0F=F3", "17=0F", "17=8F", "17=7F", "21=00", "21=80", "22=00", "23=FF", "24=00",
+    "24=38", "25=00", "26=00",
+};
+
+/* What does not: writes to other registers, refused ones, and B5 to 0x14. */
+static const char *const g_others[] = {
+    "0F=04!2", "0F=00!2", "10=0F", "11=00", "11=80!12", "12=00", "13=40",    "14=B5",
+    "16=00",   "16=17!11", "18=08", "18=01!11", "19=03", "1A=FF", "1B=03",   "1E=03",
+    "20=00",   "27=03",   "28=00", "29=00", "2A=00",    "2F=00", "30=01",    "38=00",
+    "38=01!13", "39=00",   "3A=00", "3B=FF", "3E=40",    "3E=C0!2", "3F=00",  "40=00!1",
+    "57=0F!1", "00=00",   "09=00", "0C=00", "1F=00",    "33=00", "36=00",
+};
+
+static void g_writes(void)
+{
+    char rest[256];
+
+    for (size_t i = 0; i < sizeof g_restarts / sizeof *g_restarts; i++) {
+        snprintf(rest, sizeof rest, SET_BOTH " %s ?00/08 0,-5,0 ?00/08 +2000 ?00/08 0,-5,0 ?03/0A",
+                 g_restarts[i]);
+        story(BOTH, rest);
+        snprintf(rest, sizeof rest, "0,-5,0 +2000 %s 0,-5,0 ?00/00 +1999 0,-5,0 ?00/00 +1 0,-5,0 ?03/0A",
+                 g_restarts[i]);
+        story(BOTH, rest);
+        snprintf(rest, sizeof rest, "0,-5,0 +1999 %s +1 0,-5,0 ?00/00 +2000 0,-5,0 ?03/0A",
+                 g_restarts[i]);
+        story(BOTH, rest);
+    }
+    for (size_t i = 0; i < sizeof g_others / sizeof *g_others; i++) {
+        snprintf(rest, sizeof rest, SET_BOTH " %s ?03/0A 0,0,0 ?01/08 0,2047,0 ?00/08",
+                 g_others[i]);
+        story(BOTH, rest);
+        snprintf(rest, sizeof rest, "0,-5,0 +1999 %s +1 0,-5,0 ?03/0A", g_others[i]);
+        story(BOTH, rest);
+    }
+}
+
+/* The restarts of a hold: nothing is left of its time, and the next one is whole. */
+static void g_writes_in_a_hold(void)
+{
+    char rest[256];
+
+    for (size_t i = 0; i < sizeof g_restarts / sizeof *g_restarts; i++) {
+        if (strncmp(g_restarts[i], "21=", 3) == 0)
+            continue;
+        snprintf(rest, sizeof rest, SET_BOTH " +49999 ?03/0A %s ?00/08 1,0,0 +2000 1,0,0 ?03/01 "
+                 "+49999 ?03/01 +1 ?00/00", g_restarts[i]);
+        story(BOTH " 21=0E", rest);
+    }
+    story(BOTH " 21=0E", SET_BOTH " +49999 21=0E ?00/08 1,0,0 +2000 1,0,0 ?03/01 +49999 ?03/01 +1 ?00/00");
+    story(BOTH " 21=0E", SET_BOTH " +49999 21=09 ?00/08 1,0,0 +2000 1,0,0 ?03/01 +249 ?03/01 +1 ?00/00");
+    story(BOTH " 21=0E", SET_BOTH " +1 21=07 ?00/08 1,0,0 +2000 1,0,0 ?03/01 +4294967295 ?03/01");
+    story(BOTH " 21=0E", SET_BOTH " 16=00 27=00 28=00 +49999 ?03/0A 14=B5 13=00 ?03/0A +1 ?00/08");
+    story(BOTH " 21=0E", SET_BOTH " 14=B6 ?00/00 +4294967295 ?00/00");
+}
+
+/* 0x0F restarts them and asks for no sample before; 0x17 begins anew; any-motion is by itself. */
+static void g_beginnings(void)
+{
+    story(BOTH, "1,0,0 0F=03 1,0,0 +2000 1,0,0 ?03/01");
+    story(BOTH " 17=00", "1,0,0 +2000 1,0,0 17=0F ?00/00 1,0,0 ?00/00 +1999 1,0,0 ?00/00 +1 1,0,0 ?03/01");
+    story(BOTH " 17=08", "1,0,0 +2000 17=0F 1,0,0 ?00/00 +2000 1,0,0 ?03/01");
+    story(BOTH " 17=08", "1,0,0 +2000 1,0,0 ?01/00 17=07 ?00/00 1,0,0 +2000 1,0,0 ?02/01 17=08 ?00/00");
+    story(BOTH " 16=01 28=01 21=07", "0,0,0 9,0,0 ?04/00 17=0F ?04/00 22=00 23=FF 24=00 25=00 26=00 ?04/00");
+    story(BOTH " 16=01 28=01", "0,0,0 9,0,0 ?04/00 17=7F ?04/00 22=00 ?04/00 9,0,0 ?00/00");
+    story(BOTH " 16=01 28=01 27=01", "0,0,0 9,0,0 ?00/00 24=00 18,0,0 ?04/00");
+    story(BOTH " 16=01 28=01 27=01", "0,0,0 +2000 9,0,0 ?01/00 16=01 18,0,0 ?01/00 +2000 9,0,0 ?07/01");
+}
+
+static void g_pins(void)
+{
+    struct peer t = busy();
+
+    check(pins_are(&t, PEER_LOW, PEER_LOW), "unmapped");
+    for (unsigned map = 0; map < 256; map++) {
+        bool mapped = map & 0x07;
+
+        peer_write(&t, 0x19, (uint8_t)map);
+        peer_write(&t, 0x1B, (uint8_t)~map);
+        check(pins_are(&t, mapped ? PEER_HIGH : PEER_LOW, (map & 7) == 7 ? PEER_LOW : PEER_HIGH),
+              "all three, 19=%02X", map);
+    }
+    t = fresh(0x17, 0x0F); /* with the reset bytes low below 384, high above 1536 */
+    sample_x(&t, 1);
+    peer_clock(&t, 20000);
+    sample_x(&t, 1);
+    peer_write(&t, 0x19, 0x01);
+    peer_write(&t, 0x1B, 0xFE);
+    check(shows(&t, 0x01, 0x00) && pins_are(&t, PEER_HIGH, PEER_LOW), "low-g on INT1");
+    peer_write(&t, 0x19, 0xFE);
+    peer_write(&t, 0x1B, 0x01);
+    check(pins_are(&t, PEER_LOW, PEER_HIGH), "low-g on INT2");
+    sample_x(&t, 2047);
+    check(shows(&t, 0x00, 0x00) && pins_are(&t, PEER_LOW, PEER_LOW), "low-g went");
+    peer_clock(&t, 32000);
+    sample_x(&t, 2047);
+    check(shows(&t, 0x02, 0x01) && pins_are(&t, PEER_HIGH, PEER_LOW), "high-g on INT1, with others");
+    peer_write(&t, 0x19, 0xFD);
+    peer_write(&t, 0x1B, 0x02);
+    check(pins_are(&t, PEER_LOW, PEER_HIGH), "high-g on INT2");
+    peer_write(&t, 0x20, 0x08);
+    check(pins_are(&t, PEER_HIGH, PEER_LOW), "active level 0");
+}
+
+/* ---- low-g and high-g, every byte of each register ---- */
+
+/* Whether a first sample, so much clock and a second one set a status. */
+static bool sets(const struct peer *t, const int first[3], uint32_t microseconds, const int second[3])
+{
+    struct peer copy = *t;
+    uint8_t status;
+
+    peer_sample(&copy, first[0], first[1], first[2], 0);
+    peer_clock(&copy, microseconds);
+    peer_sample(&copy, second[0], second[1], second[2], 0);
+    peer_read(&copy, 0x09, &status, 1);
+    return status != 0;
+}
+
+/* A fresh twin with 0x22 to 0x26, 0x0F and 0x17 written. */
+static struct peer of_bytes(const char *bytes, uint8_t range, uint8_t enable)
+{
+    struct peer t = fresh(0x0F, range);
+    uint8_t byte[5];
+
+    from_hex(bytes, byte);
+    for (uint8_t i = 0; i < 5; i++)
+        peer_write(&t, 0x22 + i, byte[i]);
+    peer_write(&t, 0x17, enable);
+    return t;
+}
+
+static void every_duration(void)
+{
+    static const int still[3] = {0, 0, 0}, hit[3] = {0, 2047, 0};
+
+    for (unsigned byte = 0; byte < 256; byte++) {
+        uint32_t time = (byte + 1) * 2 * MS;
+        struct peer low = of_bytes("0030000000", 0x03, 0x08);
+        struct peer high = of_bytes("0000000030", 0x03, 0x02);
+
+        peer_write(&low, 0x22, (uint8_t)byte);
+        peer_write(&high, 0x25, (uint8_t)byte);
+        check(!sets(&low, still, time - 1, still) && sets(&low, still, time, still) &&
+                  sets(&low, still, time + 1, still),
+              "22=%02X", byte);
+        check(!sets(&high, hit, time - 1, hit) && sets(&high, hit, time, hit) &&
+                  sets(&high, hit, time + 1, hit),
+              "25=%02X", byte);
+    }
+}
+
+/* The counts at each range that are just below 8 times the byte at 2 g, and just not. */
+static void every_low_threshold(void)
+{
+    static const struct {
+        uint8_t code;
+        int factor;
+    } ranges[] = {{0x03, 1}, {0x05, 2}, {0x08, 4}, {0x0C, 8}};
+
+    for (int i = 0; i < 4; i++)
+        for (int byte = 1; byte < 256; byte++) {
+            struct peer t = of_bytes("0000000000", ranges[i].code, 0x08);
+            int not_low = (8 * byte + ranges[i].factor - 1) / ranges[i].factor;
+            const int below[3] = {0, 1 - not_low, not_low - 1}, at_it[3] = {-not_low, 0, 0};
+
+            peer_write(&t, 0x23, (uint8_t)byte);
+            check(sets(&t, below, 2 * MS, below) && !sets(&t, at_it, 2 * MS, at_it),
+                  "0F=%02X, 23=%02X: %d is not low", ranges[i].code, byte, not_low);
+        }
+}
+
+static void every_high_threshold(void)
+{
+    for (int byte = 0; byte < 256; byte++) {
+        struct peer t = of_bytes("0000000000", 0x08, 0x04);
+        const int at_it[3] = {2047, -2048, -8 * byte}, above[3] = {0, 0, -8 * byte - 1};
+
+        peer_write(&t, 0x26, (uint8_t)byte);
+        check(!sets(&t, at_it, 2 * MS, at_it) && sets(&t, above, 2 * MS, above), "26=%02X", byte);
+    }
+}
+
+/* ---- low-g and high-g against their history ---- */
+
+/* What has come since power-up, or the last restart. A sample is judged by the text alone, and a
+   status is worked out by going back over the samples. */
+struct history {
+    struct {
+        uint64_t at; /* microseconds */
+        int size[3];
+        bool negative[3];
+    } sample[1000];
+    int samples;
+    uint64_t now;
+    int range, duration[2], threshold[2], mode, enable; /* [0] of low-g, [1] of high-g */
+    uint32_t hold;                                      /* 0 for none */
+    bool latched;
+    bool set[2]; /* the statuses, and since when */
+    uint64_t since[2];
+    int run_from[2]; /* no sample before this one is of a run */
+    unsigned marks;  /* 0x0C */
+};
+
+static bool is_low(const struct history *h, int i)
+{
+    const int *size = h->sample[i].size;
+    int limit = 8 * h->threshold[0];
+
+    if (h->mode & 4)
+        return (size[0] + size[1] + size[2]) * h->range < limit;
+    return size[0] * h->range < limit && size[1] * h->range < limit && size[2] * h->range < limit;
+}
+
+static bool ends_low(const struct history *h, int i)
+{
+    const int *size = h->sample[i].size;
+    int limit = 8 * h->threshold[0] + 128 * (h->mode & 3);
+
+    if (h->mode & 4)
+        return (size[0] + size[1] + size[2]) * h->range >= limit;
+    return size[0] * h->range >= limit || size[1] * h->range >= limit || size[2] * h->range >= limit;
+}
+
+static bool axis_above(const struct history *h, int i, int axis, int limit)
+{
+    return h->enable & 1 << axis && h->sample[i].size[axis] > limit;
+}
+
+static bool is_high(const struct history *h, int i)
+{
+    int limit = 8 * h->threshold[1];
+
+    return axis_above(h, i, 0, limit) || axis_above(h, i, 1, limit) || axis_above(h, i, 2, limit);
+}
+
+static bool ends_high(const struct history *h, int i)
+{
+    int limit = 8 * h->threshold[1] - 128 * (h->mode >> 6);
+
+    if (limit < 0)
+        limit = 0;
+    return !axis_above(h, i, 0, limit) && !axis_above(h, i, 1, limit) && !axis_above(h, i, 2, limit);
+}
+
+static bool of_run(const struct history *h, int which, int i)
+{
+    return which == 0 ? is_low(h, i) : is_high(h, i);
+}
+
+/* The marks that the last sample gives where it sets high-g. */
+static unsigned marks_of_last(const struct history *h)
+{
+    int last = h->samples - 1, axis = 0;
+
+    while (!axis_above(h, last, axis, 8 * h->threshold[1]))
+        axis++;
+    return 1u << axis | (h->sample[last].negative[axis] ? 8u : 0);
+}
+
+static void judge_last(struct history *h, int which)
+{
+    int last = h->samples - 1, first = last;
+    uint64_t needed = (uint64_t)(h->duration[which] + 1) * 2 * MS;
+
+    if (!(h->enable & (which == 0 ? 0x08 : 0x07)))
+        return;
+    if (!of_run(h, which, last)) {
+        bool ends = which == 0 ? ends_low(h, last) : ends_high(h, last);
+
+        if (h->set[which] && ends && !h->latched && h->hold == 0) {
+            h->set[which] = false;
+            h->marks &= which == 0 ? 0xF : 0x8;
+        }
+        return;
+    }
+    while (first > h->run_from[which] && of_run(h, which, first - 1))
+        first--;
+    if (h->set[which] || h->now - h->sample[first].at < needed)
+        return;
+    h->set[which] = true;
+    h->since[which] = h->now;
+    if (which == 1)
+        h->marks = marks_of_last(h);
+}
+
+static void history_clock(struct history *h, uint64_t microseconds)
+{
+    h->now += microseconds;
+    for (int which = 0; which < 2; which++)
+        if (h->set[which] && h->hold > 0 && h->now - h->since[which] >= h->hold) {
+            h->set[which] = false;
+            h->run_from[which] = h->samples;
+            h->marks &= which == 0 ? 0xF : 0x8;
+        }
+}
+
+/* Near one of the four levels in its own counts, or near 0 or the largest. */
+static int size_near_edge(const struct history *h)
+{
+    int level = 0;
+
+    switch (draw(6)) {
+    case 0:
+        level = 8 * h->threshold[0] / h->range;
+        break;
+    case 1:
+        level = (8 * h->threshold[0] + 128 * (h->mode & 3)) / h->range;
+        break;
+    case 2:
+        level = 8 * h->threshold[1];
+        break;
+    case 3:
+        level = 8 * h->threshold[1] - 128 * (h->mode >> 6);
+        break;
+    case 4:
+        level = 2048;
+        break;
+    }
+    if (h->mode & 4 && draw(2))
+        level /= 3;
+    level += (int)draw(3) - 1;
+    return level < 0 ? 0 : level > 2048 ? 2048 : level;
+}
+
+static void random_sample(struct peer *whole, struct peer *parts, struct history *h)
+{
+    int sample[3], i = h->samples++;
+
+    for (int axis = 0; axis < 3; axis++) {
+        int size = draw(4) ? size_near_edge(h) : 0;
+
+        sample[axis] = draw(2) || size == 2048 ? -size : size;
+        h->sample[i].size[axis] = size;
+        h->sample[i].negative[axis] = sample[axis] < 0;
+    }
+    h->sample[i].at = h->now;
+    peer_sample(whole, sample[0], sample[1], sample[2], 0);
+    peer_sample(parts, sample[0], sample[1], sample[2], 0);
+    judge_last(h, 0);
+    judge_last(h, 1);
+}
+
+static void random_clock(struct peer *whole, struct peer *parts, struct history *h)
+{
+    unsigned which = draw(2);
+    uint32_t time = draw(3) ? (uint32_t)(h->duration[which] + 1) * 2 * MS : h->hold;
+    uint32_t microseconds = time / (1 + draw(3)) + draw(3);
+
+    microseconds -= microseconds > 0 && draw(2);
+    if (draw(50) == 0)
+        microseconds = UINT32_MAX;
+    clock_both(whole, parts, microseconds);
+    history_clock(h, microseconds);
+}
+
+static void write_both(struct peer *whole, struct peer *parts, int address, int byte)
+{
+    peer_write(whole, (uint8_t)address, (uint8_t)byte);
+    peer_write(parts, (uint8_t)address, (uint8_t)byte);
+}
+
+/* Settings in which most samples are near an edge, and some fall and hit at once. */
+static void random_settings(struct peer *whole, struct peer *parts, struct history *h)
+{
+    static const int codes[] = {0x03, 0x05, 0x08, 0x0C}, bytes[] = {0, 1, 2, 6, 16, 17, 40, 192, 255};
+    unsigned range = draw(4);
+    int latch = (int)(draw(2) ? draw(16) : 8 * draw(2));
+    unsigned marks = h->marks & 8;
+
+    *h = (struct history){.now = h->now, .marks = marks};
+    h->range = 1 << range;
+    h->mode = (int)draw(256);
+    h->enable = (int)draw(4) ? (int)draw(256) | 8 : (int)draw(256);
+    h->latched = latch == 7 || latch == 15;
+    for (int i = 0; i < HOLDS; i++)
+        if (holds[i].code == (unsigned)latch)
+            h->hold = holds[i].time;
+    for (int which = 0; which < 2; which++) {
+        h->duration[which] = (int)(draw(3) ? draw(3) : draw(256));
+        h->threshold[which] = bytes[draw(sizeof bytes / sizeof *bytes)];
+        write_both(whole, parts, which == 0 ? 0x22 : 0x25, h->duration[which]);
+        write_both(whole, parts, which == 0 ? 0x23 : 0x26, h->threshold[which]);
+    }
+    write_both(whole, parts, 0x0F, codes[range]);
+    write_both(whole, parts, 0x24, h->mode);
+    write_both(whole, parts, 0x21, latch);
+    write_both(whole, parts, 0x17, h->enable);
+    h->mode &= 0xC7;
+}
+
+/* Many settings, each with samples and clocks at random. One twin gets a clock at once and the other
+   in parts: they stay the same and show what the history says. */
+static void g_at_random(void)
+{
+    struct peer whole, parts;
+    static struct history h;
+    int apart = 0, seen[2] = {0, 0};
+
+    peer_power_up(&whole);
+    parts = whole;
+    for (int turn = 0; turn < 4000; turn++) {
+        random_settings(&whole, &parts, &h);
+        for (int i = 0; i < 60; i++) {
+            if (draw(3))
+                random_sample(&whole, &parts, &h);
+            else
+                random_clock(&whole, &parts, &h);
+            apart += !same(&whole, &parts);
+            apart += !shows(&whole, (h.set[0] ? 1 : 0) | (h.set[1] ? 2 : 0), h.marks);
+            seen[0] += h.set[0];
+            seen[1] += h.set[1];
+        }
+    }
+    check(apart == 0, "%d events at random part the twins or their history", apart);
+    check(seen[0] > 1000 && seen[1] > 1000, "set at random: %d and %d times", seen[0], seen[1]);
+}
+
+static void low_and_high_g(void)
+{
+    low_thresholds();
+    low_sums();
+    low_ranges();
+    low_durations();
+    low_runs();
+    low_hysteresis();
+    low_band();
+    high_thresholds();
+    high_marks();
+    high_durations();
+    high_hysteresis();
+    high_band();
+    g_latches();
+    g_holds();
+    g_own_times();
+    g_writes();
+    g_writes_in_a_hold();
+    g_beginnings();
+    g_pins();
+    every_duration();
+    every_low_threshold();
+    every_high_threshold();
+    g_at_random();
+}
+
 /* ---- programs ---- */
 
 static const char *replay_command = "./replay", *answer_command = "./answer";
@@ -1259,7 +2113,7 @@ static void refusals_go_on(void)
     replay("01 00 03 01 16 80 00 03 01 17 01 00 03 01 18 0C 00 03 01 11 C0 00 03 01 32 05"
            "00 03 01 33 02 00 03 01 36 80 00 03 01 3A 01 00 03 01 21 89 00 03 02 16 03"
            "00 03 01 18 08 00 03 01 21 88 00 03 02 18 01 00 03 02 21 01",
-           "1 11\n2 11\n3 11\n4 12\n5 13\n6 13\n7 13\n8 13\n9 0\n10 0 000000\n11 0\n12 0\n"
+           "1 11\n2 0\n3 11\n4 12\n5 13\n6 13\n7 13\n8 13\n9 0\n10 0 000100\n11 0\n12 0\n"
            "13 0 08\n14 0 08\npins 0 0\n");
 }
 
@@ -1745,14 +2599,13 @@ static void refused_writes(void)
                    "record 6 wrote 0A to 40 and was refused 1\n"
                    "record 7 wrote B6 to FF and was refused 1\n"
                    "record 8 wrote 80 to 16 and was refused 11\n"
-                   "record 9 wrote 0F to 17 and was refused 11\n"
                    "record 10 wrote 04 to 18 and was refused 11\n"
                    "record 11 wrote 01 to 32 and was refused 13\n"
                    "record 12 wrote 02 to 33 and was refused 13\n"
                    "record 13 wrote 80 to 36 and was refused 13\n"
                    "record 14 wrote 01 to 38 and was refused 13\n"
                    "record 15 wrote FF to 3A and was refused 13\n"
-                   "records 1 to 21: " NONE_LOST ", 16 refused\n" NO_READOUT
+                   "records 1 to 21: " NONE_LOST ", 15 refused\n" NO_READOUT
                    "the log ends after record 21\n");
     answers("1 7", "from record 2: 2g\n"
                    "from record 2: BYPASS, 1 frame\n"
@@ -2114,6 +2967,7 @@ int main(int count, char **argument)
     data_and_full();
     pins();
     latch_times();
+    low_and_high_g();
     replays();
     account_and_twin();
     which_was_lost();

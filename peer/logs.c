@@ -218,7 +218,7 @@ static void put_read_as(struct log *l, const char *word, int address, int count)
 static void put_polls(struct log *l, struct log *draws)
 {
     while (one_in(draws, 3)) {
-        int address = PICK(draws, 0x02, 0x03, 0x04, 0x05, 0x06, 0x07, 0x09, 0x0A, 0x0B, 0x0E);
+        int address = PICK(draws, 0x02, 0x03, 0x04, 0x05, 0x06, 0x07, 0x09, 0x0A, 0x0B, 0x0C, 0x0E);
         int anywhere = below(draws, 0x3F);
         int count = one_in(draws, 2) ? 1 : PICK(draws, 0, 2, 3, 6, 13, 62, 63, 192, 193, 255);
 
@@ -392,6 +392,15 @@ static uint32_t any_clock(struct log *l)
     return bits >> shift; /* short and long ones alike */
 }
 
+/* A byte for 0x17: any of the statuses of 0x0A, and now and then low-g and high-g. */
+static int any_enable(struct log *l)
+{
+    int statuses = below(l, 8) << 4;
+    int detectors = below(l, 16);
+
+    return statuses | (one_in(l, 3) ? detectors : 0);
+}
+
 static int any_fifo_mode(struct log *l)
 {
     int mode = below(l, 3);
@@ -406,7 +415,7 @@ static int any_fifo_mode(struct log *l)
 static void set_watermark(struct log *l)
 {
     int level = PICK(l, 0, 1, 2, 3, 31, 32, 33, 63, 64, 0xC2);
-    int enable = below(l, 8) << 4;
+    int enable = any_enable(l);
 
     put_write(l, 0x30, level);
     put_write(l, 0x17, enable);
@@ -581,12 +590,13 @@ static int byte_at_edge(struct log *l, int refused)
     }
 }
 
-/* Settings that the twin lacks, and their neighbours. A byte that was stored shows in the reads. */
+/* Settings that the twin lacks, and their neighbours, with 0x17, of which it lacks none any more. A
+   byte that was stored shows in the reads. */
 static void lack_scene(struct log *l)
 {
     static const struct {
         int address, refused;
-    } row[] = {{0x11, 0xE0}, {0x16, 0xF0}, {0x17, 0x0F}, {0x18, 0x07}, {0x32, 0x03},
+    } row[] = {{0x11, 0xE0}, {0x16, 0xF0}, {0x17, 0x00}, {0x18, 0x07}, {0x32, 0x03},
                {0x33, 0x0B}, {0x36, 0xE7}, {0x38, 0xFF}, {0x39, 0xFF}, {0x3A, 0xFF}};
     int turns = 3 + below(l, 6);
 
@@ -813,6 +823,7 @@ static void drain_to_level(struct log *l, struct waiting *w)
 static void disturb_watermark(struct log *l, const struct waiting *w)
 {
     int others = below(l, 4) << 4;
+    int detectors = below(l, 16);
 
     switch (below(l, 5)) {
     case 0:
@@ -821,7 +832,7 @@ static void disturb_watermark(struct log *l, const struct waiting *w)
         put_write(l, 0x17, 0x40 | others);
         break;
     case 1:
-        put_write(l, 0x17, 0x01 | others); /* refused, and must leave bit 6 on */
+        put_write(l, 0x17, 0x40 | others | detectors); /* which leave bit 6 on */
         break;
     case 2:
         put_write(l, 0x3E, 0xC0 | w->mode); /* refused, and must empty nothing */
@@ -1221,6 +1232,504 @@ static void latch_scene(struct log *l)
         hold_once(l, &h);
 }
 
+/* ---- low-g and high-g scene ---- */
+
+enum { LOW, HIGH, DETECTORS };
+
+/* What is known of a run and of a status that is held for a time, to aim at the end of each. */
+struct g_aim {
+    bool running;
+    uint32_t wait; /* microseconds until the run is long enough */
+    uint32_t left; /* microseconds until the status clears; 0 while it is not held for a time */
+};
+
+struct g_setup {
+    int range, enable, mode, latch; /* the bytes of 0x0F, 0x17, 0x24 and 0x21 */
+    int duration[DETECTORS], threshold[DETECTORS];
+    struct g_aim aim[DETECTORS];
+};
+
+/* Where a sample lies: of a run, or at either side of the level at which a status clears. */
+enum place { FIRST_INSIDE, INSIDE, LAST_OUTSIDE, BEFORE_CLEARING, FIRST_CLEARING, CLEARING };
+
+static int factor(const struct g_setup *g)
+{
+    switch (g->range & 0x0F) {
+    case 0x3:
+        return 1;
+    case 0x5:
+        return 2;
+    case 0x8:
+        return 4;
+    default:
+        return 8;
+    }
+}
+
+/* The sum or the largest size at the place; the first that is inside is the largest that is low. */
+static int low_size(struct log *l, const struct g_setup *g, enum place place)
+{
+    int threshold = 8 * g->threshold[LOW];
+    int clearing = threshold + 128 * (g->mode & 3);
+    int up = factor(g) - 1; /* what lies between two counts belongs to the upper one */
+    int outside = (threshold + up) / factor(g);
+    int more = below(l, 200);
+
+    switch (place) {
+    case FIRST_INSIDE:
+        return outside - 1;
+    case INSIDE:
+        return outside > 0 ? below(l, outside) : 0;
+    case LAST_OUTSIDE:
+        return outside;
+    case BEFORE_CLEARING:
+        return (clearing + up) / factor(g) - 1;
+    case FIRST_CLEARING:
+        return (clearing + up) / factor(g);
+    default:
+        return (clearing + up) / factor(g) + more;
+    }
+}
+
+static int high_size(struct log *l, const struct g_setup *g, enum place place)
+{
+    int threshold = 8 * g->threshold[HIGH];
+    int clearing = threshold - 128 * (g->mode >> 6 & 3);
+    int more = one_in(l, 4) ? 2048 : below(l, 200);
+
+    if (clearing < 0)
+        clearing = 0;
+    switch (place) {
+    case FIRST_INSIDE:
+        return threshold + 1;
+    case INSIDE:
+        return threshold + 1 + more;
+    case LAST_OUTSIDE:
+        return threshold;
+    case BEFORE_CLEARING:
+        return clearing + 1;
+    case FIRST_CLEARING:
+        return clearing;
+    default:
+        return below(l, clearing + 1);
+    }
+}
+
+/* A count of this size, as near as 12 bits have one, with any sign. */
+static int count_of_size(struct log *l, int size)
+{
+    bool negative = one_in(l, 2);
+
+    size = size < 0 ? 0 : least(size, 2048);
+    return negative || size == 2048 ? -size : size;
+}
+
+/* Three sizes with this sum. */
+static void share(struct log *l, int sum, int size[AXES])
+{
+    int whole = below(l, AXES);
+    int first = sum > 0 ? below(l, sum + 1) : 0;
+    int second = sum > first ? below(l, sum - first + 1) : 0;
+
+    if (one_in(l, 3)) {
+        first = whole == X ? sum : 0;
+        second = whole == Y ? sum : 0;
+    }
+    size[X] = first;
+    size[Y] = second;
+    size[Z] = sum - first - second;
+}
+
+static void low_sizes(struct log *l, const struct g_setup *g, enum place place, int size[AXES])
+{
+    int wanted = low_size(l, g, place);
+    int chosen = below(l, AXES);
+
+    if (g->mode & 4 && wanted > 0) {
+        share(l, wanted, size);
+        return;
+    }
+    for (int axis = X; axis < AXES; axis++) {
+        int lower = wanted > 0 ? below(l, wanted + 1) : 0;
+
+        size[axis] = axis == chosen ? wanted : one_in(l, 2) ? lower : 0;
+    }
+}
+
+/* Inside, some enabled axes have the size and the others any up to the threshold; elsewhere one has
+   it and the others up to it. An axis that is not enabled has any size. */
+static void high_sizes(struct log *l, const struct g_setup *g, enum place place, int size[AXES])
+{
+    int wanted = high_size(l, g, place);
+    int threshold = 8 * g->threshold[HIGH];
+    int chosen = below(l, AXES);
+
+    while (g->enable & 7 && !(g->enable >> chosen & 1))
+        chosen = (chosen + 1) % AXES;
+    for (int axis = X; axis < AXES; axis++) {
+        bool inside = place == FIRST_INSIDE || place == INSIDE;
+        int any = one_in(l, 2) ? 2048 : below(l, 2049);
+        int lower = below(l, (inside ? threshold : wanted) + 1);
+        bool too = one_in(l, 3);
+
+        size[axis] = axis == chosen || too ? wanted : lower;
+        if (!(g->enable >> axis & 1))
+            size[axis] = any;
+    }
+}
+
+static bool is_low(const struct g_setup *g, const int size[AXES])
+{
+    int largest = size[X] > size[Y] ? size[X] : size[Y];
+    int counts = g->mode & 4 ? size[X] + size[Y] + size[Z] : largest > size[Z] ? largest : size[Z];
+
+    return counts * factor(g) < 8 * g->threshold[LOW];
+}
+
+static bool is_high(const struct g_setup *g, const int size[AXES])
+{
+    for (int axis = X; axis < AXES; axis++)
+        if (g->enable >> axis & 1 && size[axis] > 8 * g->threshold[HIGH])
+            return true;
+    return false;
+}
+
+static void see_sample(struct g_setup *g, int which, bool inside)
+{
+    struct g_aim *aim = &g->aim[which];
+
+    if (!inside || !aim->running)
+        aim->wait = inside ? (uint32_t)(g->duration[which] + 1) * 2000 : 0;
+    else if (aim->wait == 0 && aim->left == 0)
+        aim->left = hold_time(g->latch);
+    aim->running = inside;
+}
+
+static void put_g_sample(struct log *l, struct g_setup *g, int which, enum place place)
+{
+    int size[AXES], sample[AXES];
+
+    if (which == LOW)
+        low_sizes(l, g, place, size);
+    else
+        high_sizes(l, g, place, size);
+    for (int axis = X; axis < AXES; axis++) {
+        sample[axis] = count_of_size(l, size[axis]);
+        size[axis] = abs(sample[axis]);
+    }
+    put_sample(l, sample);
+    if (g->enable & 8)
+        see_sample(g, LOW, is_low(g, size));
+    if (g->enable & 7)
+        see_sample(g, HIGH, is_high(g, size));
+    if (!one_in(l, 6))
+        put_read(l, 0x09, 4);
+}
+
+static void put_inside(struct log *l, struct g_setup *g, int which)
+{
+    put_g_sample(l, g, which, one_in(l, 3) ? INSIDE : FIRST_INSIDE);
+}
+
+static void put_outside(struct log *l, struct g_setup *g, int which)
+{
+    int place = PICK(l, LAST_OUTSIDE, LAST_OUTSIDE, BEFORE_CLEARING, BEFORE_CLEARING,
+                     FIRST_CLEARING, FIRST_CLEARING, CLEARING);
+
+    put_g_sample(l, g, which, (enum place)place);
+}
+
+static void pass_g_time(struct log *l, struct g_setup *g, uint32_t microseconds)
+{
+    put_clock(l, microseconds);
+    for (int which = LOW; which < DETECTORS; which++) {
+        struct g_aim *aim = &g->aim[which];
+        bool ends = aim->left > 0 && microseconds >= aim->left;
+
+        aim->left = microseconds < aim->left ? aim->left - microseconds : 0;
+        aim->wait = microseconds < aim->wait ? aim->wait - microseconds : 0;
+        if (ends)
+            *aim = (struct g_aim){.running = false};
+    }
+    if (one_in(l, 2))
+        put_read(l, 0x09, 4);
+}
+
+static void see_g_restart(struct g_setup *g)
+{
+    for (int which = LOW; which < DETECTORS; which++)
+        g->aim[which] = (struct g_aim){.running = false};
+}
+
+static int any_range(struct log *l)
+{
+    int ignored = one_in(l, 4) ? 0xF0 : 0;
+
+    return PICK(l, 0x03, 0x05, 0x08, 0x0C) | ignored;
+}
+
+static int any_duration(struct log *l)
+{
+    return one_in(l, 4) ? below(l, 256) : PICK(l, 0, 0, 0, 1, 2, 9, 15, 127, 128, 254, 255);
+}
+
+/* 48 of high-g is its largest hysteresis, 16 and 32 are the others. */
+static int any_threshold(struct log *l, int which)
+{
+    if (one_in(l, 4))
+        return below(l, 256);
+    return which == LOW ? PICK(l, 0, 1, 2, 6, 48, 128, 240, 254, 255)
+                        : PICK(l, 0, 1, 15, 16, 17, 32, 47, 48, 49, 192, 254, 255);
+}
+
+static int any_g_enable(struct log *l)
+{
+    int low = PICK(l, 0x08, 0x00, 0x08);
+    int axes = one_in(l, 4) ? 0 : 1 + below(l, 7);
+    int others = below(l, 16) << 4; /* bit 7 is ignored */
+
+    return low | axes | others;
+}
+
+static void put_setup(struct log *l, struct g_setup *g)
+{
+    put_write(l, 0x0F, g->range);
+    put_write(l, 0x21, g->latch);
+    put_write(l, 0x22, g->duration[LOW]);
+    put_write(l, 0x23, g->threshold[LOW]);
+    put_write(l, 0x24, g->mode);
+    put_write(l, 0x25, g->duration[HIGH]);
+    put_write(l, 0x26, g->threshold[HIGH]);
+    put_write(l, 0x17, g->enable);
+    see_g_restart(g);
+}
+
+/* One in three can fall and be hit at once; of one in twelve -2048 is the size that clears low-g. */
+static void set_g(struct log *l, struct g_setup *g)
+{
+    bool both = one_in(l, 3);
+    int steps = 1 + below(l, 3);
+
+    g->range = any_range(l);
+    g->enable = any_g_enable(l);
+    g->mode = below(l, 256);
+    g->latch = any_latch(l);
+    for (int which = LOW; which < DETECTORS; which++) {
+        g->duration[which] = any_duration(l);
+        g->threshold[which] = any_threshold(l, which);
+    }
+    if (both) {
+        g->threshold[LOW] = PICK(l, 128, 254, 255);
+        g->threshold[HIGH] = PICK(l, 0, 1, 3);
+        g->enable |= 0x08;
+    }
+    if (one_in(l, 12)) {
+        g->range = 0x03;
+        g->mode = (g->mode & ~3) | steps;
+        g->threshold[LOW] = (2048 - 128 * steps) / 8;
+        g->enable |= 0x08;
+    }
+    put_setup(l, g);
+}
+
+/* What restarts nothing of low-g and high-g. */
+static void stir_g(struct log *l)
+{
+    static const struct {
+        int address, byte;
+    } write[] = {{0x0F, 0x04}, {0x0F, 0xFF}, {0x13, 0x40}, {0x14, 0xB5}, {0x16, 0x07}, {0x16, 0x00},
+                 {0x16, 0x17}, {0x18, 0x08}, {0x18, 0x0F}, {0x19, 0x01}, {0x19, 0x02}, {0x19, 0xFC},
+                 {0x1A, 0xFF}, {0x1B, 0x01}, {0x1B, 0x02}, {0x1B, 0x07}, {0x1E, 0x3F}, {0x20, 0x0A},
+                 {0x20, 0x05}, {0x27, 0x01}, {0x28, 0x01}, {0x29, 0x00}, {0x30, 0x01}, {0x32, 0x01},
+                 {0x38, 0x00}, {0x38, 0x01}, {0x3E, 0x80}, {0x3E, 0xC0}, {0x40, 0x00}, {0x57, 0x0F}};
+    int chosen = below(l, sizeof write / sizeof *write);
+
+    switch (below(l, 8)) {
+    case 0:
+        put_outside_sample(l); /* refused, and must end no run */
+        break;
+    case 1:
+        put_cycle_start(l);
+        break;
+    case 2:
+        put_clock(l, 0);
+        break;
+    default:
+        put_write(l, write[chosen].address, write[chosen].byte);
+        break;
+    }
+    put_read(l, 0x09, 4);
+}
+
+/* One of 0x17 and 0x22 to 0x26, with the byte that is there or another. */
+static void rewrite_g(struct log *l, struct g_setup *g)
+{
+    bool other = one_in(l, 2);
+    int which = below(l, DETECTORS);
+    int duration = any_duration(l), threshold = any_threshold(l, which);
+    int enable = any_g_enable(l), mode = below(l, 256);
+
+    switch (below(l, 4)) {
+    case 0:
+        g->enable = other ? enable : g->enable;
+        put_write(l, 0x17, g->enable);
+        break;
+    case 1:
+        g->duration[which] = other ? duration : g->duration[which];
+        put_write(l, which == LOW ? 0x22 : 0x25, g->duration[which]);
+        break;
+    case 2:
+        g->threshold[which] = other ? threshold : g->threshold[which];
+        put_write(l, which == LOW ? 0x23 : 0x26, g->threshold[which]);
+        break;
+    case 3:
+        g->mode = other ? mode : g->mode;
+        put_write(l, 0x24, g->mode);
+        break;
+    }
+}
+
+/* What clears statuses, marks, runs and the times that are left of both. */
+static void restart_g(struct log *l, struct g_setup *g)
+{
+    int statuses = 1 << (4 + below(l, 4));
+    int range = any_range(l), latch = any_latch(l);
+
+    switch (below(l, 12)) {
+    case 0:
+    case 1:
+        g->range = one_in(l, 2) ? range : g->range;
+        put_write(l, 0x0F, g->range);
+        break;
+    case 2:
+    case 3:
+        g->latch = one_in(l, 2) ? latch : g->latch;
+        put_write(l, 0x21, g->latch);
+        break;
+    case 4:
+        g->enable ^= statuses; /* of 0x0A, not of low-g and high-g */
+        put_write(l, 0x17, g->enable);
+        break;
+    case 5:
+        put_write(l, 0x14, 0xB6);
+        put_read(l, 0x09, 4);
+        put_setup(l, g);
+        break;
+    default:
+        rewrite_g(l, g);
+        break;
+    }
+    see_g_restart(g);
+    put_read(l, 0x09, 4);
+}
+
+/* Lets so much time pass, in one event or in more, with samples of the run and others between. */
+static void spend_g(struct log *l, struct g_setup *g, int which, uint32_t time)
+{
+    int cuts = PICK(l, 0, 0, 1, 1, 2, 4);
+
+    while (cuts-- > 0) {
+        uint32_t any = (uint32_t)(draw(l) % ((uint64_t)time + 1));
+        uint32_t part = time > 0 && one_in(l, 4) ? 1 : one_in(l, 4) ? time : any;
+
+        pass_g_time(l, g, part);
+        time -= part;
+        if (one_in(l, 2))
+            put_inside(l, g, which);
+        if (one_in(l, 16))
+            put_outside(l, g, which);
+        if (one_in(l, 4))
+            stir_g(l);
+        if (one_in(l, 24))
+            restart_g(l, g);
+    }
+    pass_g_time(l, g, time);
+}
+
+/* A run up to just before, at or just behind its time, and over it by single steps. */
+static void run_once(struct log *l, struct g_setup *g, int which)
+{
+    uint32_t wait, aim;
+
+    put_inside(l, g, which);
+    wait = g->aim[which].wait;
+    if (one_in(l, 8))
+        restart_g(l, g); /* no run is left that would be long enough then */
+    aim = clock_near(l, wait);
+    spend_g(l, g, which, aim);
+    if (one_in(l, 8))
+        put_outside(l, g, which);
+    put_inside(l, g, which);
+    if (g->aim[which].wait > 0 && !one_in(l, 4)) {
+        pass_g_time(l, g, g->aim[which].wait - 1);
+        put_inside(l, g, which);
+        pass_g_time(l, g, 1);
+        put_inside(l, g, which);
+    }
+}
+
+/* The end of the time for which the status is held, mostly with samples of a run around it. */
+static void end_hold(struct log *l, struct g_setup *g, int which)
+{
+    uint32_t aim = clock_near(l, g->aim[which].left);
+
+    if (one_in(l, 2))
+        put_outside(l, g, which);
+    if (one_in(l, 2))
+        put_inside(l, g, which);
+    spend_g(l, g, which, aim);
+    if (g->aim[which].left > 0 && !one_in(l, 4)) {
+        pass_g_time(l, g, g->aim[which].left - 1);
+        put_inside(l, g, which);
+        pass_g_time(l, g, 1);
+    }
+}
+
+static void after_run(struct log *l, struct g_setup *g, int which)
+{
+    int events = 1 + below(l, 4);
+
+    while (events-- > 0) {
+        int choice = below(l, 10);
+
+        if (choice < 5)
+            put_outside(l, g, which);
+        else if (choice < 6)
+            put_inside(l, g, 1 - which);
+        else if (choice < 7)
+            put_inside(l, g, which);
+        else if (choice < 9)
+            stir_g(l);
+        else
+            restart_g(l, g);
+    }
+}
+
+static void g_scene(struct log *l)
+{
+    struct g_setup g;
+    int turns = 1 + below(l, 4);
+
+    set_g(l, &g);
+    if (one_in(l, 2)) {
+        int map = PICK(l, 0x01, 0x01, 0x02, 0x02, 0x03, 0xFC);
+
+        put_write(l, 0x19, map);
+        put_write(l, 0x1B, ~map);
+    }
+    if (one_in(l, 8))
+        pass_g_time(l, &g, UINT32_MAX);
+    while (turns-- > 0) {
+        int which = !(g.enable & 8) ? HIGH : !(g.enable & 7) ? LOW : below(l, DETECTORS);
+
+        run_once(l, &g, which);
+        if (g.aim[which].left > 0 && !one_in(l, 3))
+            end_hold(l, &g, which);
+        else
+            after_run(l, &g, which);
+    }
+}
+
 /* Sets the data interrupt and looks at it around samples, cycle starts, clocks and its enable
    bit. */
 static void data_scene(struct log *l)
@@ -1228,7 +1737,7 @@ static void data_scene(struct log *l)
     int events = 4 + below(l, 8);
 
     while (events-- > 0) {
-        int enable = below(l, 8) << 4;
+        int enable = any_enable(l);
         uint32_t microseconds = any_clock(l);
 
         switch (below(l, 5)) {
@@ -1254,7 +1763,7 @@ static void data_scene(struct log *l)
 
 /* ---- the last scene: only the pins at the end are printed ---- */
 
-enum { PIN_RECORDS = 13 }; /* beside the samples */
+enum { PIN_RECORDS = 19 }; /* beside the samples */
 
 static void set_pins(struct log *l)
 {
@@ -1265,15 +1774,27 @@ static void set_pins(struct log *l)
 
         if (one_in(l, 2)) /* few bits, so that one status alone decides a pin */
             byte = address[i] == 0x1A ? PICK(l, 0x01, 0x02, 0x04, 0x80, 0x40, 0x20, 0x22, 0x42)
-                                      : PICK(l, 0x00, 0x04, 0xFB);
+                                      : PICK(l, 0x00, 0x04, 0xFB, 0x01, 0xFE, 0x02, 0xFD);
         put_write(l, address[i], byte);
     }
+}
+
+/* Thresholds that most samples are below and above, and the shortest times. */
+static void set_easy_g(struct log *l)
+{
+    int low = PICK(l, 0xFF, 0xFF, 0x30), high = PICK(l, 0x00, 0x00, 0xC0);
+
+    put_write(l, 0x22, 0x00);
+    put_write(l, 0x23, low);
+    put_write(l, 0x25, 0x00);
+    put_write(l, 0x26, high);
 }
 
 static void pins_scene(struct log *l, int fill)
 {
     int mode = any_fifo_mode(l);
-    int enable = one_in(l, 3) ? 0x40 : below(l, 8) << 4;
+    int detectors = one_in(l, 2) ? below(l, 16) : 0;
+    int enable = (one_in(l, 3) ? 0x40 : below(l, 8) << 4) | detectors;
     int axes = below(l, 8);
     int n = PICK(l, 0, 0, 1, 3);
     int latch = any_latch(l);
@@ -1288,8 +1809,16 @@ static void pins_scene(struct log *l, int fill)
     put_write(l, 0x27, n);
     put_write(l, 0x21, latch);
     put_write(l, 0x16, axes);
+    if (detectors != 0)
+        set_easy_g(l);
     while (fill-- > 0)
         put_any_sample(l);
+    if (detectors != 0) {
+        uint32_t run = clock_near(l, 2000);
+
+        put_clock(l, run);
+        put_any_sample(l);
+    }
     if (one_in(l, 2))
         put_clock(l, microseconds);
     if (one_in(l, 3))
@@ -1306,7 +1835,7 @@ static void any_scene(struct log *l)
         fifo_scene,   fifo_scene,  watermark_scene, watermark_scene, lock_scene,  burst_scene,
         corner_scene, write_scene, write_scene,     sweep_scene,     lack_scene,  range_scene,
         data_scene,   set_pins,    motion_scene,    motion_scene,    latch_scene, latch_scene,
-        mode_scene,   mode_scene,
+        mode_scene,   mode_scene,  g_scene,         g_scene,         g_scene,     g_scene,
     };
 
     if (one_in(l, 16))

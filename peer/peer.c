@@ -14,17 +14,23 @@ enum {
     STATUS_MOTION = 0x09,
     STATUS_DATA = 0x0A,
     STATUS_MARKS = 0x0B,
+    STATUS_HIGH = 0x0C,
     STATUS_FIFO = 0x0E,
     RANGE = 0x0F,
     SHADOW = 0x13,
     SOFT_RESET = 0x14,
     ENABLE_MOTION = 0x16,
-    ENABLE_DATA = 0x17,
+    ENABLE_DATA = 0x17, /* and low-g and high-g */
     MAP_INT1 = 0x19,
     MAP_DATA = 0x1A,
     MAP_INT2 = 0x1B,
     PIN_DRIVE = 0x20,
     LATCH = 0x21,
+    LOW_DURATION = 0x22,
+    LOW_THRESHOLD = 0x23,
+    G_MODE = 0x24, /* sum mode of low-g and both hystereses */
+    HIGH_DURATION = 0x25,
+    HIGH_THRESHOLD = 0x26,
     MOTION_COUNT = 0x27,
     MOTION_THRESHOLD = 0x28,
     WATERMARK_LEVEL = 0x30,
@@ -34,8 +40,14 @@ enum {
     FIFO_DATA = 0x3F
 };
 
+/* Bits of 0x09, and of its maps 0x19 and 0x1B. */
+enum { MOTION = 0x04, HIGH = 0x02, LOW = 0x01 };
+
 /* Bits of 0x0A. */
 enum { DATA = 0x80, WATERMARK = 0x40, FULL = 0x20 };
+
+/* Bits of 0x17. */
+enum { ENABLE_LOW = 0x08, ENABLE_HIGH = 0x07 };
 
 enum { MODE_BITS = 0xC0, BYPASS = 0x00, FIFO = 0x40 };
 
@@ -67,6 +79,17 @@ static const uint32_t hold_time[0x10] = {
     [0x4] = 2000000, [0x5] = 4000000, [0x6] = 8000000, /* 2, 4 and 8 s */
     [0x9] = 250,     [0xA] = 500,     [0xB] = 1000,    /* 250 and 500 us, 1 ms */
     [0xC] = 12500,   [0xD] = 25000,   [0xE] = 50000    /* 12.5, 25 and 50 ms */
+};
+
+static bool non_latched(const struct peer *t)
+{
+    return (t->reg[LATCH] & 7) == 0;
+}
+
+/* How many counts at 2 g one count is worth with each code of 0x0F, its low nibble; 0 for the codes
+   that are refused. */
+static const uint8_t range_factor[0x10] = {
+    [0x3] = 1, [0x5] = 2, [0x8] = 4, [0xC] = 8 /* 2, 4, 8 and 16 g */
 };
 
 /* ---- power-up and soft reset ---- */
@@ -174,12 +197,11 @@ static void over_point(struct peer *t, unsigned n, int axis, bool negative)
 static void calm_point(struct peer *t, unsigned n)
 {
     struct peer_motion *m = &t->motion;
-    bool non_latched = (t->reg[LATCH] & 7) == 0;
 
     m->over_run = 0;
     if (m->calm_run < n)
         m->calm_run++;
-    if (m->calm_run == n && non_latched) {
+    if (m->calm_run == n && non_latched(t)) {
         m->status = false;
         m->marks = 0;
     }
@@ -214,20 +236,111 @@ static void any_motion(struct peer *t, const int sample[PEER_AXES])
         judge_point(t, difference);
 }
 
-/* ---- register write ---- */
+/* ---- low-g and high-g ---- */
 
-static enum peer_answer refuse_range(uint8_t byte)
+/* The sign stays. */
+static void clear_g(struct peer_g_detector *g)
 {
-    switch (byte & 0x0F) {
-    case 0x3: /* 2 g */
-    case 0x5: /* 4 g */
-    case 0x8: /* 8 g */
-    case 0xC: /* 16 g */
-        return PEER_DONE;
-    default:
-        return PEER_RESERVED_CODE;
+    g->status = false;
+    g->running = false;
+    g->marks = 0;
+    g->wait = 0;
+    g->left = 0;
+}
+
+static void restart_g(struct peer *t)
+{
+    clear_g(&t->low);
+    clear_g(&t->high);
+}
+
+/* A sample that is low, or high: it begins a run, or may set the status if it goes on with one that
+   is long enough. Gives whether it sets it. */
+static bool g_sample(const struct peer *t, struct peer_g_detector *g, uint8_t duration)
+{
+    if (!g->running) {
+        g->running = true;
+        g->wait = (duration + 1u) * 2000;
+        return false;
+    }
+    if (g->wait > 0 || g->status)
+        return false;
+    g->status = true;
+    g->left = hold_time[t->reg[LATCH]];
+    return true;
+}
+
+/* A sample that is not: it ends a run, and the status if it is far enough from the threshold. */
+static void g_pause(const struct peer *t, struct peer_g_detector *g, bool far_enough)
+{
+    g->running = false;
+    g->wait = 0;
+    if (far_enough && non_latched(t)) {
+        g->status = false;
+        g->marks = 0;
     }
 }
+
+static int largest(const int size[PEER_AXES])
+{
+    int of_two = size[0] > size[1] ? size[0] : size[1];
+
+    return of_two > size[2] ? of_two : size[2];
+}
+
+/* Every axis is below a level where the largest is, and some axis at or above it where the largest
+   is. */
+static void low_g(struct peer *t, const int size[PEER_AXES])
+{
+    bool sum_mode = t->reg[G_MODE] & 0x04;
+    int counts = sum_mode ? size[0] + size[1] + size[2] : largest(size);
+    int counts_at_2_g = counts * range_factor[t->reg[RANGE]];
+    int threshold = 8 * t->reg[LOW_THRESHOLD];
+    int hysteresis = 128 * (t->reg[G_MODE] & 3);
+
+    if (counts_at_2_g < threshold)
+        g_sample(t, &t->low, t->reg[LOW_DURATION]);
+    else
+        g_pause(t, &t->low, counts_at_2_g >= threshold + hysteresis);
+}
+
+/* The first enabled axis above a level, or PEER_AXES where there is none. */
+static int first_above(const struct peer *t, const int size[PEER_AXES], int level)
+{
+    int axis = 0;
+
+    while (axis < PEER_AXES && !(t->reg[ENABLE_DATA] >> axis & 1 && size[axis] > level))
+        axis++;
+    return axis;
+}
+
+static void high_g(struct peer *t, const int sample[PEER_AXES], const int size[PEER_AXES])
+{
+    struct peer_g_detector *g = &t->high;
+    int threshold = 8 * t->reg[HIGH_THRESHOLD];
+    int hysteresis = 128 * (t->reg[G_MODE] >> 6);
+    int level = threshold > hysteresis ? threshold - hysteresis : 0;
+    int axis = first_above(t, size, threshold);
+
+    if (axis == PEER_AXES) {
+        g_pause(t, g, first_above(t, size, level) == PEER_AXES);
+    } else if (g_sample(t, g, t->reg[HIGH_DURATION])) {
+        g->marks = (uint8_t)(1 << axis);
+        g->negative = sample[axis] < 0;
+    }
+}
+
+static void low_and_high_g(struct peer *t, const int sample[PEER_AXES])
+{
+    const int size[PEER_AXES] = {abs(sample[0]), abs(sample[1]), abs(sample[2])};
+
+    if (t->reg[ENABLE_DATA] & ENABLE_LOW)
+        low_g(t, size);
+    if (t->reg[ENABLE_DATA] & ENABLE_HIGH)
+        high_g(t, sample, size);
+}
+
+/* ---- register write ---- */
 
 /* Gives the number of the register where the byte has one of the bits that the twin lacks. */
 static enum peer_answer refuse_bits(uint8_t byte, uint8_t lacking, enum peer_answer number)
@@ -240,15 +353,13 @@ static enum peer_answer refuse_write(uint8_t address, uint8_t byte)
 {
     switch (address) {
     case RANGE:
-        return refuse_range(byte);
+        return range_factor[byte & 0x0F] == 0 ? PEER_RESERVED_CODE : PEER_DONE;
     case FIFO_MODE:
         return (byte & MODE_BITS) == MODE_BITS ? PEER_RESERVED_CODE : PEER_DONE;
     case 0x11:
         return refuse_bits(byte, 0xE0, PEER_NO_POWER_MODE);
     case ENABLE_MOTION:
         return refuse_bits(byte, 0xF0, PEER_NO_DETECTOR);
-    case ENABLE_DATA:
-        return refuse_bits(byte, 0x0F, PEER_NO_DETECTOR);
     case 0x18:
         return refuse_bits(byte, 0x07, PEER_NO_DETECTOR);
     case 0x32:
@@ -273,12 +384,24 @@ static void act_on_write(struct peer *t, uint8_t address, uint8_t byte)
     case RANGE:
         t->motion.has_previous = false;
         clear_motion(&t->motion);
+        restart_g(t);
+        break;
+    case LATCH:
+        clear_motion(&t->motion);
+        restart_g(t);
         break;
     case ENABLE_MOTION:
-    case LATCH:
     case MOTION_COUNT:
     case MOTION_THRESHOLD:
         clear_motion(&t->motion);
+        break;
+    case ENABLE_DATA:
+    case LOW_DURATION:
+    case LOW_THRESHOLD:
+    case G_MODE:
+    case HIGH_DURATION:
+    case HIGH_THRESHOLD:
+        restart_g(t);
         break;
     case SHADOW:
         if (byte & 0x40)
@@ -341,6 +464,13 @@ static bool watermark_reached(const struct peer *t)
     return level >= 1 && level <= fifo_depth(t) && t->fifo.count >= level;
 }
 
+/* The byte of 0x09. */
+static uint8_t status_motion(const struct peer *t)
+{
+    return (uint8_t)((t->motion.status ? MOTION : 0) | (t->high.status ? HIGH : 0) |
+                     (t->low.status ? LOW : 0));
+}
+
 /* The byte of 0x0A. */
 static uint8_t status_data(const struct peer *t)
 {
@@ -368,11 +498,13 @@ static uint8_t read_register(struct peer *t, uint8_t address)
     case Z_MSB:
         return read_msb(t, address);
     case STATUS_MOTION:
-        return t->motion.status ? 0x04 : 0;
+        return status_motion(t);
     case STATUS_DATA:
         return status_data(t);
     case STATUS_MARKS:
         return t->motion.marks | (t->motion.negative ? 0x08 : 0);
+    case STATUS_HIGH:
+        return t->high.marks | (t->high.negative ? 0x08 : 0);
     case STATUS_FIFO:
         return t->fifo.count | (t->fifo.overrun ? 0x80 : 0);
     default:
@@ -420,6 +552,8 @@ enum peer_answer peer_sample(struct peer *t, int x, int y, int z, uint8_t temper
     t->fresh_data = true;
     put_frame(t);
     any_motion(t, sample);
+    if (t->reg[ENABLE_DATA] & (ENABLE_LOW | ENABLE_HIGH))
+        low_and_high_g(t, sample);
     return PEER_DONE;
 }
 
@@ -429,7 +563,23 @@ enum peer_answer peer_cycle_start(struct peer *t)
     return PEER_DONE;
 }
 
-/* Where no temporary status is set, runs and all else stay. */
+/* What is left of a time. */
+static uint32_t less(uint32_t time, uint32_t microseconds)
+{
+    return microseconds < time ? time - microseconds : 0;
+}
+
+static void pass_time(struct peer_g_detector *g, uint32_t microseconds)
+{
+    bool temporary = g->left > 0;
+
+    g->wait = less(g->wait, microseconds);
+    g->left = less(g->left, microseconds);
+    if (temporary && g->left == 0)
+        clear_g(g);
+}
+
+/* Where no temporary status is set, the runs of any-motion and all else stay. */
 enum peer_answer peer_clock(struct peer *t, uint32_t microseconds)
 {
     struct peer_motion *m = &t->motion;
@@ -438,6 +588,10 @@ enum peer_answer peer_clock(struct peer *t, uint32_t microseconds)
         m->left -= microseconds;
     else if (m->left > 0)
         clear_motion(m);
+    if (t->reg[ENABLE_DATA] & (ENABLE_LOW | ENABLE_HIGH)) {
+        pass_time(&t->low, microseconds);
+        pass_time(&t->high, microseconds);
+    }
     return PEER_DONE;
 }
 
@@ -454,11 +608,11 @@ static enum peer_level pin_level(bool active, unsigned drive)
 struct peer_pins peer_pins(const struct peer *t)
 {
     unsigned status = status_data(t), map = t->reg[MAP_DATA], drive = t->reg[PIN_DRIVE];
-    bool motion = t->motion.status;
+    unsigned detected = status_motion(t);
     bool data = status & DATA, watermark = status & WATERMARK, full = status & FULL;
-    bool int1 = (t->reg[MAP_INT1] & 0x04 && motion) || (map & 0x01 && data) ||
+    bool int1 = t->reg[MAP_INT1] & detected || (map & 0x01 && data) ||
                 (map & 0x02 && watermark) || (map & 0x04 && full);
-    bool int2 = (t->reg[MAP_INT2] & 0x04 && motion) || (map & 0x80 && data) ||
+    bool int2 = t->reg[MAP_INT2] & detected || (map & 0x80 && data) ||
                 (map & 0x40 && watermark) || (map & 0x20 && full);
 
     return (struct peer_pins){pin_level(int1, drive & 3), pin_level(int2, drive >> 2 & 3)};

@@ -1,6 +1,6 @@
 /* A twin of the BMA255 accelerometer: registers 0x00 to 0x3F, three data channels, the FIFO, the
-   any-motion detector with its latch times and both interrupt pins. Plain C11, no heap, updated in
-   place.
+   detectors of any-motion, low-g and high-g with their latch times and both interrupt pins. Plain
+   C11, no heap, updated in place.
 
    The caller owns a struct peer and starts it with peer_power_up(); the fields are not for use
    outside peer.c. Each event gives back one of the numbers below; a number other than PEER_DONE
@@ -33,7 +33,7 @@ enum peer_answer {
     PEER_WRONG_VERSION = 7,     /* log version byte not 1 */
     PEER_WRONG_RECORD = 8,      /* record length or kind wrong */
     PEER_LOG_CUT = 9,           /* log cut, or empty */
-    PEER_NO_DETECTOR = 11,      /* a detector bit in 0x16 to 0x18 */
+    PEER_NO_DETECTOR = 11,      /* a detector bit in 0x16 or 0x18 */
     PEER_NO_POWER_MODE = 12,    /* a power mode in 0x11 */
     PEER_NO_TEST_OR_TRIM = 13   /* self-test, memory, calibration or offset in 0x32, 0x33, 0x36,
                                    0x38 to 0x3A */
@@ -63,6 +63,16 @@ struct peer_motion {
     uint32_t left;    /* microseconds until a temporary status clears; 0 while there is none */
 };
 
+/* Low-g or high-g. A run is of samples in a row that are low, or high. */
+struct peer_g_detector {
+    bool status;   /* 0x09 bit 0 of low-g, bit 1 of high-g */
+    bool running;  /* the sample before belongs to a run */
+    uint8_t marks; /* 0x0C bits 2:0 of high-g, 0 of low-g */
+    bool negative; /* 0x0C bit 3 of high-g, false of low-g */
+    uint32_t wait; /* microseconds until the run is long enough; 0 while there is none, or it is */
+    uint32_t left; /* as of any-motion */
+};
+
 struct peer {
     uint8_t reg[PEER_REGISTERS]; /* 0x09 to 0x0C, 0x0E and 0x3F are worked out when read */
     uint8_t lock[PEER_AXES];     /* the MSB byte held for a locked axis */
@@ -70,6 +80,7 @@ struct peer {
     bool fresh_data; /* a sample came since the last cycle start or reset */
     struct peer_fifo fifo;
     struct peer_motion motion;
+    struct peer_g_detector low, high;
 };
 
 void peer_power_up(struct peer *t);

@@ -17,14 +17,15 @@ static unsigned below(unsigned n) {
 
 /* one of the registers that do something, or any byte */
 static uint8_t an_address(void) {
-    static const uint8_t busy[] = {0x0F, 0x13, 0x14, 0x16, 0x17, 0x19, 0x1A, 0x1B, 0x20, 0x21, 0x27, 0x28, 0x30, 0x3E};
+    static const uint8_t busy[] = {0x0F, 0x13, 0x14, 0x16, 0x17, 0x19, 0x1A, 0x1B, 0x20, 0x21,
+                                   0x22, 0x23, 0x24, 0x25, 0x26, 0x27, 0x28, 0x30, 0x3E};
     return below(4) ? busy[below(sizeof busy)] : (uint8_t)below(below(8) ? 0x41 : 0x100);
 }
 
-/* near a bound, near zero, or anywhere in 16 bits */
+/* near a bound, near zero, near what a small threshold or hysteresis makes of low-g and high-g, or anywhere in 16 bits */
 static int a_count(void) {
-    static const int near[] = {-2048, 2047, 0, 0, 0, 0};
-    return below(40) ? near[below(6)] + (int)below(13) - 6 : (int)below(0x10000) - 0x8000;
+    static const int near[] = {-2048, 2047, 0, 0, 0, 0, 0, 0, 8, -16, 136, -144};
+    return below(40) ? near[below(sizeof near / sizeof *near)] + (int)below(13) - 6 : (int)below(0x10000) - 0x8000;
 }
 
 /* one that the register makes something of, or any */
@@ -32,10 +33,15 @@ static uint8_t a_byte(uint8_t address) {
     if (address == 0x14) return below(50) ? 0xB5 : 0xB6; /* a soft reset now and then */
     if (below(3) == 0) return (uint8_t)below(0x100);
     switch (address) {
-    case 0x17: return (uint8_t)(below(8) << 4);            /* which statuses are enabled */
+    case 0x17: return (uint8_t)below(0x80);                /* which statuses are enabled, of 0x0A and of low-g and high-g */
+    case 0x22:
+    case 0x25: return (uint8_t)below(2);                   /* a run of 2 or 4 ms */
+    case 0x23:
+    case 0x26: return (uint8_t)(below(4) ? 1 + below(2) : below(2) ? 0 : 0xFF); /* 8 or 16 counts, none, or nearly all */
+    case 0x24: return (uint8_t)below(0x100);               /* both hystereses and the mode of low-g */
     case 0x30: return (uint8_t)below(below(2) ? 5 : 35);   /* a level that few frames reach, or one up to 34 */
     case 0x3E: return (uint8_t)(below(3) << 6 | below(4)); /* a mode, and the axes of a frame */
-    case 0x21: return (uint8_t)below(16);
+    case 0x21: return (uint8_t)(below(2) ? below(16) : below(2) << 3); /* any code, or non-latched */
     default: return (uint8_t)below(8);
     }
 }
@@ -60,9 +66,10 @@ static bool sample_both(void) {
     return twin_sample(&twin, x, y, z, temperature) == (uint8_t)peer_sample(&peer, x, y, z, temperature);
 }
 
-/* a latch time or some microseconds around it, a part of one, or anything in 32 bits */
+/* a latch time, that of a run of low-g or high-g or some microseconds around it, a part of one, or anything in 32 bits */
 static uint32_t a_time(void) {
-    static const uint32_t times[] = {250, 500, 1000, 12500, 25000, 50000, 250000, 500000, 1000000, 2000000, 4000000, 8000000};
+    static const uint32_t times[] = {250,     500,     1000,    12500, 25000, 50000, 250000, 500000, 1000000,
+                                     2000000, 4000000, 8000000, 2000,  2000,  4000,  4000,   6000,   512000};
     uint32_t time = times[below(sizeof times / sizeof *times)];
     if (below(40) == 0) return (uint32_t)(below(0x10000) << 16 | below(0x10000));
     return below(2) ? time + below(3) - 1 : below(time);
@@ -77,7 +84,7 @@ static bool event_both(void) {
     unsigned kind = below(16);
     if (kind < 4) return write_both();
     if (kind < 7) return read_both();
-    if (kind < 14) return sample_both();
+    if (kind < 13) return sample_both();
     if (kind < 15) return clock_both();
     return twin_cycle(&twin) == (uint8_t)peer_cycle_start(&peer);
 }
