@@ -23,18 +23,19 @@
 #endif
 
 /* The version of this header and of the library beside it: the last number moves where no name does, the middle one where names are
- * added, the first where a caller may have to be changed. The first is in the library's symbols, so that what was compiled with a header
- * of another one does not link.
+ * added or what was refused is done, the first where a caller may have to be changed. The first is in the library's symbols, so that what
+ * was compiled with a header of another one does not link.
  *
- * Since 4.1.1 a buffer that overlaps the record is TWIN_BAD_BUFFER whatever its length is; 4.1.0 passed over those above
- * TWIN_LONGEST_READ. Since 4.1 the symbols have it, and the library itself looks at what it is handed, also for a caller without this
- * header; there is a shared library. In 4.0 this header looked: what was compiled with it is compiled anew, as it is. Since 4 there is a
- * clock: twin_event takes microseconds, and 0x21 takes a latch time. Since 3 the watermark stays 1 above its level; 2 showed it at the
- * level alone. */
+ * Since 4.2 there are low-g and high-g: 0x17 takes any byte, of which 4.1 refused those with a 1 in bits 3:0 as TWIN_NO_DETECTOR; a caller
+ * that writes none of these is answered as before. Since 4.1.1 a buffer that overlaps the record is TWIN_BAD_BUFFER whatever its length is;
+ * 4.1.0 passed over those above TWIN_LONGEST_READ. Since 4.1 the symbols have it, and the library itself looks at what it is handed, also
+ * for a caller without this header; there is a shared library. In 4.0 this header looked: what was compiled with it is compiled anew, as it
+ * is. Since 4 there is a clock: twin_event takes microseconds, and 0x21 takes a latch time. Since 3 the watermark stays 1 above its level;
+ * 2 showed it at the level alone. */
 #define TWIN_VERSION_MAJOR 4
-#define TWIN_VERSION_MINOR 1
-#define TWIN_VERSION_PATCH 1
-#define TWIN_VERSION "4.1.1"
+#define TWIN_VERSION_MINOR 2
+#define TWIN_VERSION_PATCH 0
+#define TWIN_VERSION "4.2.0"
 
 #ifdef __cplusplus
 extern "C" {
@@ -52,7 +53,7 @@ enum twin_answer {
     TWIN_BAD_LENGTH = 5,       /* read length 0 or above 192 */
     TWIN_PAST_END = 6,         /* read starting below 0x3F that would pass 0x3E */
     TWIN_NO_KIND = 8,          /* a kind of event that does not exist */
-    TWIN_NO_DETECTOR = 11,     /* write of a detector bit in 0x16 to 0x18 */
+    TWIN_NO_DETECTOR = 11,     /* write of a detector bit in 0x16 or 0x18 */
     TWIN_NO_POWER_MODE = 12,   /* write of a power mode in 0x11 */
     TWIN_NO_TEST_OR_TRIM = 13, /* write of self-test, memory, calibration or offset in 0x32, 0x33, 0x36, 0x38 to 0x3A */
     /* for a call that is no event at all; these are looked at first */

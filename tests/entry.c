@@ -83,10 +83,9 @@ static void written(struct twin *twin, uint8_t address, int byte, uint8_t answer
 static void lacking(struct twin *twin) {
     static const struct {
         uint8_t address, bits, answer;
-    } lacks[] = {{0x11, 0xE0, TWIN_NO_POWER_MODE},   {0x16, 0xF0, TWIN_NO_DETECTOR},     {0x17, 0x0F, TWIN_NO_DETECTOR},
-                 {0x18, 0x07, TWIN_NO_DETECTOR},     {0x32, 0x03, TWIN_NO_TEST_OR_TRIM}, {0x33, 0x0B, TWIN_NO_TEST_OR_TRIM},
-                 {0x36, 0xE7, TWIN_NO_TEST_OR_TRIM}, {0x38, 0xFF, TWIN_NO_TEST_OR_TRIM}, {0x39, 0xFF, TWIN_NO_TEST_OR_TRIM},
-                 {0x3A, 0xFF, TWIN_NO_TEST_OR_TRIM}};
+    } lacks[] = {{0x11, 0xE0, TWIN_NO_POWER_MODE},   {0x16, 0xF0, TWIN_NO_DETECTOR},     {0x18, 0x07, TWIN_NO_DETECTOR},
+                 {0x32, 0x03, TWIN_NO_TEST_OR_TRIM}, {0x33, 0x0B, TWIN_NO_TEST_OR_TRIM}, {0x36, 0xE7, TWIN_NO_TEST_OR_TRIM},
+                 {0x38, 0xFF, TWIN_NO_TEST_OR_TRIM}, {0x39, 0xFF, TWIN_NO_TEST_OR_TRIM}, {0x3A, 0xFF, TWIN_NO_TEST_OR_TRIM}};
     for (int byte = 0; byte < 256; byte++)
         for (size_t i = 0; i < sizeof lacks / sizeof lacks[0]; i++)
             written(twin, lacks[i].address, byte, byte & lacks[i].bits ? lacks[i].answer : (uint8_t)TWIN_DONE);
@@ -124,6 +123,28 @@ static void latch_times(struct twin *twin) {
         HOLDS(twin_clock(twin, 1) == TWIN_DONE && shows_motion(twin, false));
         moved(twin, byte);
         HOLDS(twin_clock(twin, UINT32_MAX) == TWIN_DONE && shows_motion(twin, false));
+    }
+}
+
+/* samples of this y, the last of them microseconds behind the first: the byte of 0x09 then, which both pins show as well */
+static int noticed(struct twin *twin, int y, uint32_t microseconds) {
+    uint8_t status;
+    HOLDS(twin_sample(twin, 0, y, 0, 0) == TWIN_DONE && twin_clock(twin, microseconds) == TWIN_DONE);
+    HOLDS(twin_sample(twin, 0, y, 0, 0) == TWIN_DONE && twin_read(twin, 0x09, &status, 1) == TWIN_DONE);
+    HOLDS(twin_int1(twin) == status % 2 && twin_int2(twin) == status / 2);
+    return status;
+}
+
+/* every byte to 0x17: low-g, mapped to INT1, and high-g on y, mapped to INT2, each to the last microsecond before its time and at it */
+static void falls_and_hits(struct twin *twin) {
+    for (int enables = 0; enables < 256; enables++) {
+        uint8_t mark, low = enables & 8 ? 1 : 0, high = enables & 2 ? 2 : 0;
+        HOLDS(twin_power_up(twin) == TWIN_DONE && twin_write(twin, 0x19, 1) == TWIN_DONE && twin_write(twin, 0x1B, 2) == TWIN_DONE);
+        HOLDS(twin_write(twin, 0x25, 0) == TWIN_DONE && twin_write(twin, 0x17, (uint8_t)enables) == TWIN_DONE);
+        HOLDS(noticed(twin, -383, 19999) == 0 && noticed(twin, -383, 1) == low);
+        HOLDS(noticed(twin, -1536, 2000) == 0);
+        HOLDS(noticed(twin, -2048, 1999) == 0 && noticed(twin, -2048, 1) == high);
+        HOLDS(twin_read(twin, 0x0C, &mark, 1) == TWIN_DONE && mark == (high ? 0x0A : 0));
     }
 }
 
@@ -314,6 +335,7 @@ static void at_the_edge(uint8_t *page, uint8_t *buffers) {
     refused_events(twin);
     lacking(twin);
     latch_times(twin);
+    falls_and_hits(twin);
     unknown_kinds(twin);
     no_buffer(twin);
     HOLDS(all((uint8_t *)twin + twin_size(), TWIN_ROOM - twin_size(), 0));

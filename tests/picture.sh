@@ -16,12 +16,14 @@ is_xml() {
     if command -v xmllint >/dev/null; then xmllint --noout "$svg" 2>/dev/null
     else python3 -c 'import sys, xml.dom.minidom; xml.dom.minidom.parse(sys.argv[1])' "$svg" 2>/dev/null; fi
 }
+# whether it is the picture in docs/, but for when and by what it was drawn
+is_on_page() { grep -v '>Drawn ' "docs/$1.svg" >"$room/page.svg" && grep -v '>Drawn ' "$svg" | cmp -s - "$room/page.svg"; } # NAME
 no_rest() { [ -z "$(find "$room" -name '.picture.*')" ]; }
 
 # ---- what it shows
 draws 0 examples/spring.log && tail -n 1 "$svg" | grep -q "^</svg>" && is_xml && quiet && has ">records 1 to 89: 40 accepted, 32 taken, 8 lost"
 expect "a picture has the sentence, and is well-formed" $?
-grep -v '>Drawn ' docs/spring.svg >"$room/page.svg" && grep -v '>Drawn ' "$svg" | cmp -s - "$room/page.svg"
+is_on_page spring
 expect "docs/spring.svg is that picture" $?
 [ "$(lost_columns 89)" = "68 70 72 74 76 78 80 82 " ] && has 'y="673.0".*>8<'
 expect "a block for each lost sample, and their number" $?
@@ -29,6 +31,8 @@ has "<title" && has "<desc" && has "number of the record" && has "counts, as sto
 expect "title, names of the axes, the log's size and SHA-256, version, date, and dashed lines" $?
 has '>BYPASS<' && has '>FIFO<' && has '>16g?<' && has 'fill="url(#doubt)"'
 expect "the modes, and the range in doubt" $?
+draws 0 examples/drop.log && is_on_page drop
+expect "docs/drop.svg is the picture of examples/drop.log" $?
 log_of "$stream$(samples 40)$readout" >"$room/stream.log" && draws 0 "$room/stream.log" && [ "$(lost_columns 42)" = "1 2 3 4 5 6 7 8 " ] && has 'y="673.0".*>8<'
 expect "in STREAM the oldest are lost, and marked at their own place" $?
 log_of "$(samples 3)" >"$room/bypass.log" && draws 0 "$room/bypass.log" && [ "$(lost_columns 3)" = "0 1 " ] && has "in these records no readout came"
