@@ -128,7 +128,7 @@ static void latch_times(struct twin *twin) {
 
 /* samples of this y, the last of them microseconds behind the first: the byte of 0x09 then, which both pins show as well */
 static int noticed(struct twin *twin, int y, uint32_t microseconds) {
-    uint8_t status;
+    uint8_t status = 0xFF;
     HOLDS(twin_sample(twin, 0, y, 0, 0) == TWIN_DONE && twin_clock(twin, microseconds) == TWIN_DONE);
     HOLDS(twin_sample(twin, 0, y, 0, 0) == TWIN_DONE && twin_read(twin, 0x09, &status, 1) == TWIN_DONE);
     HOLDS(twin_int1(twin) == status % 2 && twin_int2(twin) == status / 2);
