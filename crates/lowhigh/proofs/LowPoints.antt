@@ -17,9 +17,10 @@ use Rattle.spell.specs.declared.Shown.{Shown}
 use Rattle.spell.specs.declared.Shown.the-variants.{Nothing, Met, Unmet, FarFromMet}
 use Rattle.gravity.specs.Low.{areBelow, shownOf, judgedLow, judgedIn, lowShown}
 use Rattle.paper.specs.Samples.{Values}
+use Rattle.lookback.specs.InRow.{every}
 use Rattle.lookback.proofs.Seen.{OneOrNone}
 use Rattle.lasting.proofs.Parts.{shownBy}
-use Rattle.lowhigh.specs.Low.{Measured, every, some, isLow, isFar, factorBy, countsOf, measured, pointBy, lowLasting}
+use Rattle.lowhigh.specs.Low.{Measured, some, isLow, isFar, factorBy, countsOf, measured, pointBy, lowLasting}
 
 -- ---- at or above is not below
 pub from-is : (limit n : ℕ) → leb limit n ≡ not (ltb n limit)

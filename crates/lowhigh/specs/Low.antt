@@ -1,16 +1,17 @@
 -- Q-5, low-g: what a sample is held against, and its status.
 use Prim.Native.Nat.{ℕ, _+_, _*_, _%_}
-use mathlib.Core.Bool.{Bool, true, false}
+use mathlib.Core.Bool.{Bool, false}
 use mathlib.Core.List.{List, [], _∷_, map}
 use lib.Dec.{leb, ltb}
 use lib.IntN.{natAbs}
-use Rattle.laws.specs.Choice.{pick, both, either}
+use Rattle.laws.specs.Choice.{pick, either}
 use Rattle.laws.specs.Bits.{bit}
 use Rattle.laws.specs.Keys.{Key, _means_, meaningOf}
 use Rattle.events.specs.Event.{Event}
 use Rattle.paper.specs.Stored.{byteBy}
 use Rattle.paper.specs.Samples.{Values}
 use Rattle.lookback.specs.Watch.{noMark, Watch}
+use Rattle.lookback.specs.InRow.{every}
 use Rattle.lasting.specs.Lasting.{Lasting, watch}
 
 -- what a sample is held against: its sizes, or their sum, in 2 g counts; the threshold; and the hysteresis
@@ -18,10 +19,6 @@ pub record Measured : Type 0 where
   pub counts : List ℕ
   pub threshold : ℕ
   pub hysteresis : ℕ
-
-abbrev pub every : (ℕ → Bool) → List ℕ → Bool
-every so [] = true
-every so (n ∷ ns) = both (so n) (every so ns)
 
 abbrev pub some : (ℕ → Bool) → List ℕ → Bool
 some so [] = false
