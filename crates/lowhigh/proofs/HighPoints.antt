@@ -1,11 +1,11 @@
 -- What the code sees of a sample is what the request says of it: high-g. Assumes nothing.
-use Prim.Native.Nat.{ℕ, _-_, _*_, _/_, _%_, _^_, _<_, _≤_}
+use Prim.Native.Nat.{ℕ, _-_, _*_, _/_, _%_, _<_, _≤_}
 use mathlib.Core.Bool.{Bool, true, false, not}
 use mathlib.Core.List.{List, [], _∷_}
 use mathlib.Core.Path.{_≡_, refl, sym, ap, _∙_}
 use native.Mathlib.Omega.{arith}
 use borrow.Author.Tests.{leb-true, le-ltb}
-use lib.Dec.{eqb, leb, ltb}
+use lib.Dec.{leb, ltb}
 use lib.IntN.{ℤ, pos, natAbs}
 use lib.Signed.{ltZ}
 use Rattle.laws.specs.Choice.{pick, both, either}
@@ -13,6 +13,7 @@ use Rattle.laws.specs.Bits.{bit}
 use Rattle.laws.proofs.Finite.{alike, picked, left, right}
 use Rattle.codes.specs.Range.{rangeOf, isReservedRange}
 use Rattle.slopes.specs.Point.{noAxis}
+use Rattle.slopes.proofs.Axes.{none-enabled}
 use Rattle.spell.specs.declared.Shown.{Shown}
 use Rattle.spell.specs.declared.Shown.the-variants.{Nothing, Met, Unmet, FarFromMet}
 use Rattle.gravity.specs.Sizes.{sizeAndSign}
@@ -137,23 +138,6 @@ module _ (enables : ℕ) (v : Values) where
       go false false true = refl
       go false false false = refl
 
--- the three lowest bits
-low-0 : (byte : ℕ) → byte / 2 ^ 0 % 2 ≡ byte % 8 / 2 ^ 0 % 2
-low-0 byte = omega arith
-
-low-1 : (byte : ℕ) → byte / 2 ^ 1 % 2 ≡ byte % 8 / 2 ^ 1 % 2
-low-1 byte = omega arith
-
-low-2 : (byte : ℕ) → byte / 2 ^ 2 % 2 ≡ byte % 8 / 2 ^ 2 % 2
-low-2 byte = omega arith
-
-abbrev anyOf : ℕ → Bool
-anyOf m = either (bit 0 m) (either (bit 1 m) (bit 2 m))
-
-none-enabled : (byte : ℕ) → noAxis byte ≡ not (anyOf byte)
-unfolding bit
-none-enabled byte = rw (low-0 byte, low-1 byte, low-2 byte) (alike (λ m. eqb m 0) (λ m. not (anyOf m)) 8 refl (byte % 8) (omega arith))
-
 -- ---- the range
 known-is : (code : ℕ) → isReservedRange (rangeOf code) ≡ not (isKnownRange code)
 unfolding rangeOf
@@ -167,7 +151,8 @@ pub high-shown : (enables code threshold modes : ℕ) (v : Values) {A : Type 0} 
     → pick (noAxis enables) other (of (highShown enables code threshold modes (v .x) (v .y) (v .z))) ≡ of (shownBy highLasting (pointBy enables code threshold modes v))
 unfolding highShown
 high-shown enables code threshold modes v of other idle =
-    rw (none-enabled enables, some-enabled enables v, known-is code, judged-is enables v (8 * threshold) (clearsTo (8 * threshold) modes)) (go (anyOf enables) (isKnownRange code))
+    rw (none-enabled enables, some-enabled enables v, known-is code, judged-is enables v (8 * threshold) (clearsTo (8 * threshold) modes))
+    (go (either (bit 0 enables) (either (bit 1 enables) (bit 2 enables))) (isKnownRange code))
   where
     m : Measured
     m = record { axes = enabledAxes enables v; threshold = 8 * threshold; hysteresis = 128 * (modes / 64) }

@@ -1,23 +1,24 @@
 -- The point that a slope detector of the device sees is 01's. Assumes nothing.
-use Prim.Native.Nat.{ℕ, _*_, _/_, _%_, _^_, _<_, _≤_}
+use Prim.Native.Nat.{ℕ, _*_, _<_, _≤_}
 use mathlib.Core.Bool.{Bool, true, false, not}
 use mathlib.Core.List.{List, [], _∷_}
 use mathlib.Core.Path.{_≡_, refl}
 use native.Mathlib.Omega.{arith}
 use borrow.Author.Tests.{leb-true}
-use lib.Dec.{eqb, leb, ltb}
+use lib.Dec.{leb, ltb}
 use lib.IntN.{ℤ, pos, negsuc, _-ℤ_, natAbs}
 use lib.Signed.{ltZ, mag}
 use Rattle.laws.specs.Choice.{pick, both, either}
 use Rattle.laws.specs.Bits.{bit}
-use Rattle.laws.proofs.Finite.{picked, alike, left}
+use Rattle.laws.proofs.Finite.{picked, left}
 use Rattle.laws.proofs.Ints.{sub-size}
 use Rattle.slopes.specs.Slope.{slopeOf}
 use Rattle.slopes.specs.Previous.{remembered, slopesTo}
-use Rattle.slopes.specs.Point.{overOn, noAxis, firstOver, pointOf}
+use Rattle.slopes.specs.Point.{overOn, firstOver, pointOf}
 use Rattle.slopes.specs.declared.Previous.{Previous}
 use Rattle.slopes.specs.declared.Point.{Point}
 use Rattle.slopes.specs.declared.Point.the-variants.{None, Calm, Over}
+use Rattle.slopes.proofs.Axes.{none-enabled}
 use Rattle.paper.specs.Samples.{Values, isInside}
 use Rattle.lookback.proofs.Seen.{OneOrNone}
 use Rattle.points.specs.Points.{AxisDifference, OverAxes, axesBetween, isAbove, aboveAmong, firstMarked, anyEnabled, pointOfTwo}
@@ -29,20 +30,6 @@ small (negsuc n) h = leb-true n 2047 (left (leb n 2047) true h)
 
 pub difference-bounds : (old new : ℤ) → isInside old ≡ true → isInside new ≡ true → natAbs (new -ℤ old) ≤ 4095
 difference-bounds old new p q = let a = small old p in let b = small new q in omega (arith, sub-size 2048 new old (omega arith) (omega arith))
-
--- ---- the axes
-low-0 : (byte : ℕ) → byte / 2 ^ 0 % 2 ≡ byte % 8 / 2 ^ 0 % 2
-low-0 byte = omega arith
-
-low-1 : (byte : ℕ) → byte / 2 ^ 1 % 2 ≡ byte % 8 / 2 ^ 1 % 2
-low-1 byte = omega arith
-
-low-2 : (byte : ℕ) → byte / 2 ^ 2 % 2 ≡ byte % 8 / 2 ^ 2 % 2
-low-2 byte = omega arith
-
-none-enabled : (byte : ℕ) → noAxis byte ≡ not (anyEnabled byte)
-unfolding bit
-none-enabled byte = rw (low-0 byte, low-1 byte, low-2 byte) (alike (λ m. eqb m 0) (λ m. not (anyEnabled m)) 8 refl (byte % 8) (omega arith))
 
 -- ---- the point
 -- the detectors' previous sample is the latest of these

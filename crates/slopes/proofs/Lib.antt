@@ -1,2 +1,3 @@
 pub mod Bounds
+pub mod Axes
 pub mod InRow
