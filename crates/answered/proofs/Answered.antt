@@ -3,8 +3,10 @@
 use Prim.Native.Nat.{ℕ}
 use mathlib.Core.Bool.{Bool, true, false}
 use mathlib.Core.List.{List, [], _∷_, _++_}
-use mathlib.Core.Path.{_≡_, refl, ap, _∙_}
+use mathlib.Core.Path.{_≡_, refl, sym, ap, _∙_}
+use borrow.Author.Tests.{not-false}
 use lib.ListN.{drop}
+use Rattle.laws.specs.Keys.{meaningOf}
 use Rattle.codes.specs.Range.{isReservedRange}
 use Rattle.codes.specs.declared.Range.{Range}
 use Rattle.codes.specs.declared.Range.the-variants.{G2, G4, G8, G16, Reserved}
@@ -14,12 +16,13 @@ use Rattle.counts.specs.declared.Account.{Account}
 use Rattle.spelling.specs.Spelling.{spaced, gText, modeText, doubtText, countText, columnsThen}
 use Rattle.spelling.proofs.Spelling.{stretch-spelt, in-force-spelt}
 use Rattle.recorded.specs.Recorded.{Recorded, eventsOf, historyOf}
+use Rattle.paper.specs.Ranges.{ranges}
 use Rattle.paper.specs.Stored.{byteBy}
+use Rattle.paper.proofs.Refused.{reserved-range}
 use Rattle.stretches.specs.Histories.{accountOf, Stretch, Each}
 use Rattle.stretches.proofs.Ranges.{range-known}
 use Rattle.told.specs.Plain.{printedStretches, seenAt, lineOf}
-use Rattle.ranges.specs.Ranges.{MeansG}
-use Rattle.ranges.proofs.Ranges.{range-means, known-some}
+use Rattle.ranges.proofs.Ranges.{range-means}
 use Rattle.answered.specs.Answered.{codeBy, SaysRange, ThirdColumn, ToldRange, AnsweredRanges}
 
 -- ---- the word
@@ -35,20 +38,17 @@ word-is G16 k = refl
 word-is Reserved k = cc
 
 module _ (rs : List Recorded) where
-  account-means : MeansG (codeBy (eventsOf rs)) (inG (accountOf rs .range))
-  account-means = range-means (byteBy (eventsOf rs) 0x0F)
-
-  said : (g : ℕ) → inG (accountOf rs .range) ≡ g → gText (accountOf rs .range) ≡ in-words g
-  said g is = word-is (accountOf rs .range) (range-known rs) ∙ ap in-words is
+  said : (code : ℕ) → codeBy (eventsOf rs) ≡ code → gText (accountOf rs .range) ≡ in-words (meaningOf ranges 0 code)
+  said code is = word-is (accountOf rs .range) (range-known rs) ∙ ap in-words (range-means (byteBy (eventsOf rs) 0x0F) ∙ ap (meaningOf ranges 0) is)
 
   pub says-range : SaysRange (eventsOf rs) (gText (accountOf rs .range))
   unfolding decimal lastDigits
   says-range = record {
-    2g = λ h. said 2 (account-means .two .1 h);
-    4g = λ h. said 4 (account-means .four .1 h);
-    8g = λ h. said 8 (account-means .eight .1 h);
-    16g = λ h. said 16 (account-means .sixteen .1 h);
-    known = λ h. known-some (accountOf rs .range) (range-known rs) (account-means .none .1 h);
+    2g = said 0b0011;
+    4g = said 0b0101;
+    8g = said 0b1000;
+    16g = said 0b1100;
+    known = not-false _ (sym (reserved-range (byteBy (eventsOf rs) 0x0F)) ∙ range-known rs);
   }
 
   pub told-range : ToldRange rs

@@ -1,12 +1,13 @@
 -- docs/ANSWER.md, RANGE: what the answer prints as the range, in a stretch's line and in words, by 01's codes of the byte at 0x0F. In a history
 -- the latest event stands first.
 use Prim.Native.Nat.{ℕ, _%_}
-use mathlib.Core.Bool.{Bool}
+use mathlib.Core.Bool.{Bool, true}
 use mathlib.Core.List.{List, _∷_, _++_}
 use mathlib.Core.Path.{_≡_}
 use lib.ListN.{length}
 use Rattle.text.specs.Text.{ascii, decimal}
 use Rattle.events.specs.Event.{Event}
+use Rattle.paper.specs.Ranges.{isKnownRange}
 use Rattle.paper.specs.Stored.{byteBy}
 use Rattle.recorded.specs.Recorded.{Recorded, eventsOf}
 use Rattle.counts.specs.Counts.{sum}
@@ -15,7 +16,6 @@ use Rattle.wording.specs.Wording.{rangeLine}
 use Rattle.spelling.specs.Spelling.{spaced, doubtText, because, fromThen}
 use Rattle.stretches.specs.Histories.{accountOf, doubtOf, Stretch, Part, Each}
 use Rattle.told.specs.Plain.{printedStretches, seenAt, lineOf}
-use Rattle.ranges.specs.Ranges.{IsOther}
 
 -- the low nibble of the byte that a history leaves at 0x0F
 abbrev pub codeBy : List Event → ℕ
@@ -27,7 +27,7 @@ pub record SaysRange (es : List Event) (word : List ℕ) : Type 0 where
   pub 4g : codeBy es ≡ 0b0101 → word ≡ ascii "4g"
   pub 8g : codeBy es ≡ 0b1000 → word ≡ ascii "8g"
   pub 16g : codeBy es ≡ 0b1100 → word ≡ ascii "16g"
-  pub known : ¬ IsOther (codeBy es)
+  pub known : isKnownRange (byteBy es 0x0F) ≡ true
 
 -- whether it is in doubt
 abbrev pub doubtBy : List Recorded → Doubt

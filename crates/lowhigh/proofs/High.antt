@@ -22,6 +22,7 @@ use Rattle.detectors.specs.declared.Detectors.{Detectors}
 use Rattle.events.specs.Event.{Event, read, bytes, gives}
 use Rattle.events.specs.Run.{after}
 use Rattle.events.specs.Bank.{bank}
+use Rattle.paper.specs.Ranges.{isKnownRange}
 use Rattle.paper.specs.Stored.{byteBy}
 use Rattle.paper.specs.Samples.{Values}
 use Rattle.paper.proofs.Stored.{stored-is}
@@ -35,7 +36,7 @@ use Rattle.lasting.proofs.Parts as parts
 use Rattle.lasting.proofs.Parts.{shownBy, Spelled}
 use Rattle.rules.specs.Shown.{bitSeen}
 use Rattle.rules.proofs.Reading as rules
-use Rattle.lowhigh.specs.High.{Measured, enabledAxes, isSome, isKnownRange, highLasting, highG, highMarksByte}
+use Rattle.lowhigh.specs.High.{Measured, enabledAxes, isSome, highLasting, highG, highMarksByte}
 use Rattle.lowhigh.proofs.Delays.{high-counted}
 use Rattle.lowhigh.proofs.HighPoints.{high-apart, high-one, high-small, high-shown}
 

@@ -1,5 +1,5 @@
 -- What the code sees of a sample is what the request says of it: high-g. Assumes nothing.
-use Prim.Native.Nat.{ℕ, _-_, _*_, _/_, _%_, _<_, _≤_}
+use Prim.Native.Nat.{ℕ, _-_, _*_, _/_, _<_, _≤_}
 use mathlib.Core.Bool.{Bool, true, false, not}
 use mathlib.Core.List.{List, [], _∷_}
 use mathlib.Core.Path.{_≡_, refl, sym, ap, _∙_}
@@ -10,19 +10,20 @@ use lib.IntN.{ℤ, pos, natAbs}
 use lib.Signed.{ltZ}
 use Rattle.laws.specs.Choice.{pick, both, either}
 use Rattle.laws.specs.Bits.{bit}
-use Rattle.laws.proofs.Finite.{alike, picked, left, right}
-use Rattle.codes.specs.Range.{rangeOf, isReservedRange}
+use Rattle.laws.proofs.Finite.{picked, left, right}
 use Rattle.slopes.specs.Point.{noAxis}
 use Rattle.slopes.proofs.Axes.{none-enabled}
 use Rattle.spell.specs.declared.Shown.{Shown}
 use Rattle.spell.specs.declared.Shown.the-variants.{Nothing, Met, Unmet, FarFromMet}
 use Rattle.gravity.specs.Sizes.{sizeAndSign}
 use Rattle.gravity.specs.High.{aboveOn, someAbove, judgedHigh, clearsTo, highShown}
+use Rattle.paper.specs.Ranges.{isKnownRange}
 use Rattle.paper.specs.Samples.{Values}
+use Rattle.paper.proofs.Refused.{reserved-range}
 use Rattle.lookback.specs.Watch.{Mark}
 use Rattle.lookback.proofs.Seen.{OneOrNone}
 use Rattle.lasting.proofs.Parts.{shownBy}
-use Rattle.lowhigh.specs.High.{Axis, enabledAmong, enabledAxes, Measured, above, isSome, isHigh, allWithin, isFar, firstMarked, isKnownRange, pointBy, highLasting}
+use Rattle.lowhigh.specs.High.{Axis, enabledAmong, enabledAxes, Measured, above, isSome, isHigh, allWithin, isFar, firstMarked, pointBy, highLasting}
 use Rattle.lowhigh.proofs.LowPoints.{from-is}
 
 -- ---- a sample at which it clears is not high
@@ -138,20 +139,12 @@ module _ (enables : ℕ) (v : Values) where
       go false false true = refl
       go false false false = refl
 
--- ---- the range
-known-is : (code : ℕ) → isReservedRange (rangeOf code) ≡ not (isKnownRange code)
-unfolding rangeOf
-known-is code =
-    let e : code % 16 % 16 ≡ code % 16 = omega arith in
-    let k = alike (λ c. isReservedRange (rangeOf c)) (λ c. not (isKnownRange c)) 16 refl (code % 16) (omega arith) in
-    rw e at k
-
 -- ---- together: of whether no axis is enabled, as the code asks it
 pub high-shown : (enables code threshold modes : ℕ) (v : Values) {A : Type 0} (of : Shown → A) (other : A) → other ≡ of Nothing
     → pick (noAxis enables) other (of (highShown enables code threshold modes (v .x) (v .y) (v .z))) ≡ of (shownBy highLasting (pointBy enables code threshold modes v))
 unfolding highShown
 high-shown enables code threshold modes v of other idle =
-    rw (none-enabled enables, some-enabled enables v, known-is code, judged-is enables v (8 * threshold) (clearsTo (8 * threshold) modes))
+    rw (none-enabled enables, some-enabled enables v, reserved-range code, judged-is enables v (8 * threshold) (clearsTo (8 * threshold) modes))
     (go (either (bit 0 enables) (either (bit 1 enables) (bit 2 enables))) (isKnownRange code))
   where
     m : Measured

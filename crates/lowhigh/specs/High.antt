@@ -1,5 +1,5 @@
 -- Q-5, high-g: what a sample is held against, its status and its marks.
-use Prim.Native.Nat.{ℕ, _+_, _-_, _*_, _/_, _%_, _^_}
+use Prim.Native.Nat.{ℕ, _+_, _-_, _*_, _/_, _^_}
 use mathlib.Core.Bool.{Bool, true, false, not}
 use mathlib.Core.List.{List, [], _∷_}
 use lib.Dec.{leb, ltb}
@@ -7,8 +7,8 @@ use lib.IntN.{ℤ, pos, natAbs}
 use lib.Signed.{ltZ}
 use Rattle.laws.specs.Choice.{pick, both, either}
 use Rattle.laws.specs.Bits.{bit, worth}
-use Rattle.laws.specs.Lists.{isIn}
 use Rattle.events.specs.Event.{Event}
+use Rattle.paper.specs.Ranges.{isKnownRange}
 use Rattle.paper.specs.Stored.{byteBy}
 use Rattle.paper.specs.Samples.{Values}
 use Rattle.lookback.specs.Watch.{Mark, noMark, Watch}
@@ -65,10 +65,6 @@ firstMarked (a ∷ axes) = record { axis = 2 ^ (a .place); negative = ltZ (a .va
 
 abbrev pub markOf : Measured → Mark
 markOf m = firstMarked (above (m .threshold) (m .axes))
-
--- "0011 2 g, 0101 4 g, 1000 8 g, 1100 16 g", of the byte of 0x0F
-abbrev pub isKnownRange : ℕ → Bool
-isKnownRange code = isIn (0b0011 ∷ 0b0101 ∷ 0b1000 ∷ 0b1100 ∷ []) (code % 16)
 
 -- by the bytes of 0x17, 0x0F, 0x26 and 0x24, where an axis is enabled and the range is known
 abbrev pub pointBy : ℕ → ℕ → ℕ → ℕ → Values → List Measured

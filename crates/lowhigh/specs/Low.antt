@@ -1,13 +1,13 @@
 -- Q-5, low-g: what a sample is held against, and its status.
-use Prim.Native.Nat.{ℕ, _+_, _*_, _%_}
+use Prim.Native.Nat.{ℕ, _+_, _*_, _/_, _%_}
 use mathlib.Core.Bool.{Bool, false}
 use mathlib.Core.List.{List, [], _∷_, map}
 use lib.Dec.{leb, ltb}
 use lib.IntN.{natAbs}
 use Rattle.laws.specs.Choice.{pick, either}
 use Rattle.laws.specs.Bits.{bit}
-use Rattle.laws.specs.Keys.{Key, _means_, meaningOf}
 use Rattle.events.specs.Event.{Event}
+use Rattle.paper.specs.Ranges.{gBy, isKnownRange}
 use Rattle.paper.specs.Stored.{byteBy}
 use Rattle.paper.specs.Samples.{Values}
 use Rattle.lookback.specs.Watch.{noMark, Watch}
@@ -32,12 +32,9 @@ isLow m = every (λ n. ltb n (m .threshold)) (m .counts)
 abbrev pub isFar : Measured → Bool
 isFar m = some (λ n. leb (m .threshold + m .hysteresis) n) (m .counts)
 
--- "count times 1, 2, 4, 8 by range", of the byte of 0x0F; none where it has no meaning
-abbrev pub factors : List (Key (List ℕ))
-factors = 0b0011 means (1 ∷ []) ∷ 0b0101 means (2 ∷ []) ∷ 0b1000 means (4 ∷ []) ∷ 0b1100 means (8 ∷ []) ∷ []
-
+-- "in 2 g counts (count times 1, 2, 4, 8 by range)", of the byte of 0x0F: half its g; none where it has no meaning
 unfoldable pub factorBy : ℕ → List ℕ
-factorBy code = meaningOf factors [] (code % 16)
+factorBy code = pick (isKnownRange code) (gBy code / 2 ∷ []) []
 
 -- "every axis size, or in sum mode (0x24 bit 2) their sum, in 2 g counts", of the byte of 0x24; the size of -2048 is 2048
 abbrev pub countsOf : ℕ → Values → ℕ → List ℕ

@@ -24,6 +24,7 @@ use Rattle.registers.specs.Answers.{number, accepted}
 use Rattle.registers.specs.Refused.{writeAnswer, answerAt, reservedCode, notModelled, lackAt}
 use Rattle.registers.specs.declared.Answer.the-variants.{Done, ReservedCode}
 use Rattle.registers.proofs.Answers.{lack-any, lack-refused}
+use Rattle.paper.specs.Ranges.{isKnownRange}
 use Rattle.paper.specs.Refused.{isReservedWrite, isDetectorWrite, isPowerModeWrite, isTestOrTrimWrite, isLacking, accepts}
 use Rattle.paper.proofs.Bits.{shareOne, share-one}
 
@@ -39,7 +40,7 @@ means-other isOther other o (k ∷ ks) ps n = go (eqb n (k .code)) (means-other 
     go true later = ps .0
     go false later = later
 
-reserved-range : (byte : ℕ) → range.isReservedRange (rangeOf byte) ≡ not (isIn (0b0011 ∷ 0b0101 ∷ 0b1000 ∷ 0b1100 ∷ []) (byte % 16))
+pub reserved-range : (byte : ℕ) → range.isReservedRange (rangeOf byte) ≡ not (isKnownRange byte)
 unfolding rangeOf
 reserved-range byte = means-other range.isReservedRange _ refl range.ranges (refl, (refl, (refl, (refl, tt)))) (byte % 16)
 

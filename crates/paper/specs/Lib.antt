@@ -1,4 +1,5 @@
 pub mod Table
+pub mod Ranges
 pub mod Refused
 pub mod Stored
 pub mod Samples

@@ -1,12 +1,13 @@
 -- 01, "Numbers given back" and "Register table", Q-1 and Q-4: which writes are refused, in their words. No contract cites this: proofs/Refused
 -- holds the definitions that the contracts cite against it.
-use Prim.Native.Nat.{ℕ, _/_, _%_}
+use Prim.Native.Nat.{ℕ, _/_}
 use mathlib.Core.Bool.{Bool, false, not}
 use mathlib.Core.List.{List, [], _∷_}
 use lib.Dec.{eqb, leb}
 use Rattle.laws.specs.Choice.{pick, both, either}
 use Rattle.laws.specs.Lists.{isIn}
 use Rattle.laws.specs.Bits.{bit}
+use Rattle.paper.specs.Ranges.{isKnownRange}
 
 -- Of a write a is the address and b the byte; held are the bytes that the addresses hold before it.
 
@@ -18,7 +19,7 @@ wouldHold held a b k = pick (eqb a k) b (held k)
 unfoldable pub isReservedWrite : (ℕ → ℕ) → ℕ → ℕ → Bool
 isReservedWrite held a b =
     -- "0F: the codes 0011, 0101, 1000 and 1100 ..; every other low nibble is refused 2"
-    pick (eqb a 0x0F) (not (isIn (0b0011 ∷ 0b0101 ∷ 0b1000 ∷ 0b1100 ∷ []) (wouldHold held a b 0x0F % 16)))
+    pick (eqb a 0x0F) (not (isKnownRange (wouldHold held a b 0x0F)))
     -- "3E: bits 7:6 are 00 .., 01 .., 10 ..; 11 is refused 2"
     (pick (eqb a 0x3E) (not (isIn (0b00 ∷ 0b01 ∷ 0b10 ∷ []) (wouldHold held a b 0x3E / 64)))
     false)
