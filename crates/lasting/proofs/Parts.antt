@@ -1,4 +1,5 @@
--- A spell of the device that is shown what the events tell is the one that looking back tells: for whichever condition. Assumes nothing.
+-- A spell of the device that is shown what the events tell is the one that looking back tells: for whichever condition. What a write, a clock
+-- and a sample make of all detectors they make of each spell that is kept among them. Assumes nothing.
 use Prim.Native.Nat.{ℕ, _-_, _<_}
 use mathlib.Core.Bool.{Bool, true, false}
 use mathlib.Core.List.{List, [], _∷_}
@@ -6,6 +7,7 @@ use mathlib.Core.Path.{_≡_, refl, ap, _∙_}
 use lib.Dec.{leb}
 use Rattle.laws.specs.Choice.{pick, both}
 use Rattle.laws.specs.Lists.{isIn}
+use Rattle.laws.proofs.Finite.{of-pick}
 use Rattle.alarm.specs.Course.{Detector}
 use Rattle.alarm.specs.declared.Alarm.{Alarm}
 use Rattle.registers.specs.Deeds.{deedsOf, judgement}
@@ -17,7 +19,9 @@ use Rattle.spell.specs.declared.Spell.{Spell}
 use Rattle.spell.specs.declared.Shown.{Shown}
 use Rattle.spell.specs.declared.Shown.the-variants.{Nothing}
 use Rattle.spell.proofs.Clock.{asDetector, byTime, restart-as, clock-as}
-use Rattle.detectors.specs.Detectors.{allQuiet, detectorsSampled, detectorsClocked, detectorsWritten}
+use Rattle.gravity.specs.Gravity.{bothQuiet, bothRestarted, bothClocked, bothSampled}
+use Rattle.gravity.specs.declared.Gravity.{Gravity}
+use Rattle.detectors.specs.Detectors.{detectorsSampled, detectorsClocked, detectorsWritten}
 use Rattle.detectors.specs.declared.Detectors.{Detectors}
 use Rattle.events.specs.Event.{Event}
 use Rattle.events.specs.Run.{after}
@@ -37,11 +41,35 @@ use Rattle.lasting.specs.Lasting.{clearing, Lasting, delayAsked, watch}
 use Rattle.lasting.proofs.Runs.{watchOf}
 use Rattle.lasting.proofs.Spells.{shownAt, spell-judges}
 
+-- one of the two spells that the device keeps together: as at power-up, at a restart and at a clock
+pub record Kept : Type 0 where
+  pub get : Gravity → Spell
+  pub quiet-is : get bothQuiet ≡ quiet stopped
+  pub restarts : (g : Gravity) → get (bothRestarted g) ≡ restarted stopped (get g)
+  pub clocks : (us : ℕ) (g : Gravity) → get (bothClocked us g) ≡ clocked stopped us (get g)
+
+-- among all detectors: at a write and at a clock
+module _ (k : Kept) where
+  abbrev spellOf : Detectors → Spell
+  spellOf d = k .get (d .gravity)
+
+  written : (d : Deeds) (t : Detectors) → d .resets ≡ false → spellOf (detectorsWritten d t) ≡ pick (d .restarts .gravity) (restarted stopped (spellOf t)) (spellOf t)
+  unfolding detectorsWritten
+  written d t r = rw (r, ← k .restarts (t .gravity)) (of-pick (k .get) (d .restarts .gravity) (bothRestarted (t .gravity)) (t .gravity))
+
+  clocks : (us : ℕ) (t : Detectors) → spellOf (detectorsClocked us t) ≡ clocked stopped us (spellOf t)
+  unfolding detectorsClocked
+  clocks us t = k .clocks us (t .gravity)
+
 module _ (l : Lasting) where
   -- what a sample shows, by the points that it gives
   abbrev pub shownBy : List (l .Point) → Shown
   shownBy [] = Nothing
   shownBy (p ∷ ps) = shownAt (l .isMet) (l .isFar) (l .mark) p
+
+  -- what a spell becomes that is shown something, by what is in force after a history
+  abbrev pub afterShown : List Event → Spell → Shown → Spell
+  afterShown es s t = afterSample stopped t (delayAsked l es) (isNonLatched es) (timeAsked es) s
 
   -- what has to hold of a spell of the device
   pub record Spelled : Type 0 where
@@ -51,13 +79,10 @@ module _ (l : Lasting) where
     -- the delay changes at restarts only, and its time is counted
     pub delays : isIn clearing (l .delayAt) ≡ true
     pub counted : (es : List Event) → delayAsked l es < most
-    -- the spell: as at power-up, at a write, at a clock and at a sample
-    pub get : Detectors → Spell
-    pub quiet-is : get allQuiet ≡ quiet stopped
-    pub written : (d : Deeds) (s : Detectors) → d .resets ≡ false → get (detectorsWritten d s) ≡ pick (d .restarts .gravity) (restarted stopped (get s)) (get s)
-    pub clocks : (us : ℕ) (s : Detectors) → get (detectorsClocked us s) ≡ clocked stopped us (get s)
-    pub sampled : (es : List Event) (v : Values) (s : Detectors)
-        → get (detectorsSampled (bank es) (v .x) (v .y) (v .z) s) ≡ afterSample stopped (shownBy (l .pointOf es v)) (delayAsked l es) (isNonLatched es) (timeAsked es) (get s)
+    -- it is kept, and at a sample it is shown the point
+    pub kept : Kept
+    pub samples : (es : List Event) (v : Values) (g : Gravity)
+        → kept .get (bothSampled (bank es) (v .x) (v .y) (v .z) g) ≡ afterShown es (kept .get g) (shownBy (l .pointOf es v))
 
 -- "an accepted write to 0x0F, 0x17, 0x21 or 0x22 to 0x26 restarts them"
 restarts-are : (es : List Event) (a byte : ℕ) → judgement (bank es) a byte .deeds .restarts .gravity ≡ both (isAccepted es a byte) (isIn clearing a)
@@ -81,39 +106,40 @@ module _ (l : Lasting) (s : Spelled l) where
   }
 
   abbrev pub spellAfter : List Event → Spell
-  spellAfter es = s .get (after es .detectors)
+  spellAfter es = spellOf (s .kept) (after es .detectors)
 
   -- an accepted sample
   module _ (es : List Event) (v : Values) where
     abbrev sampled : Spell
-    sampled = s .get (detectorsSampled (bank es) (v .x) (v .y) (v .z) (after es .detectors))
+    sampled = spellOf (s .kept) (detectorsSampled (bank es) (v .x) (v .y) (v .z) (after es .detectors))
 
-    abbrev shown : List (l .Point) → Spell
-    shown ps = afterSample stopped (shownBy l ps) (delayAsked l es) (isNonLatched es) (timeAsked es) (spellAfter es)
+    shown : (ps : List (l .Point)) → l .pointOf es v ≡ ps → asDetector sampled ≡ asDetector (afterShown l es (spellAfter es) (shownBy l ps))
+    unfolding detectorsSampled
+    shown ps n = ap asDetector (s .samples es v (after es .detectors .gravity) ∙ ap (λ (qs : List (l .Point)). afterShown l es (spellAfter es) (shownBy l qs)) n)
 
     idle : l .pointOf es v ≡ [] → asDetector sampled ≡ asDetector (spellAfter es)
     unfolding afterSample
-    idle n = ap asDetector (s .sampled es v (after es .detectors) ∙ ap shown n)
+    idle n = shown [] n
 
     judges : (p : l .Point) → l .pointOf es v ≡ p ∷ [] → (ss : List (Sight (l .Point))) → spellAfter es .watch ≡ watchOf (l .isMet) ss
         → asDetector sampled ≡ record { run = watchOf (l .isMet) (point p ∷ ss); alarm = judgedBy (watch l) (goingBy (watch l) es) p ss (spellAfter es .alarm) }
     unfolding goingBy
     judges p n ss h =
-        ap asDetector (s .sampled es v (after es .detectors) ∙ ap shown n)
+        shown (p ∷ []) n
         ∙ spell-judges (l .isMet) (l .isFar) (l .mark) (s .apart) p ss (delayAsked l es) (timeAsked es) (isNonLatched es) (spellAfter es) (s .counted es) h
 
   part : Part (watch l)
   part = record {
     course = byTime stopped;
-    get = λ d. asDetector (s .get d);
+    get = λ d. asDetector (spellOf (s .kept) d);
     runOf = λ g ss. watchOf (l .isMet) ss;
     begins = λ g. refl;
     passes = λ g us ss. refl;
-    quiet = ap asDetector (s .quiet-is);
+    quiet = ap asDetector (s .kept .quiet-is);
     deed = λ d. d .restarts .gravity;
     deed-at = restarts-are;
-    written = λ d t r. ap asDetector (s .written d t r) ∙ restart-as stopped (d .restarts .gravity) (s .get t);
-    clocks = λ us t. ap asDetector (s .clocks us t) ∙ clock-as stopped us (s .get t);
+    written = λ d t r. ap asDetector (written (s .kept) d t r) ∙ restart-as stopped (d .restarts .gravity) (spellOf (s .kept) t);
+    clocks = λ us t. ap asDetector (clocks (s .kept) us t) ∙ clock-as stopped us (spellOf (s .kept) t);
     idle = idle;
     judges = judges;
   }

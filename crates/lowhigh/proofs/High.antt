@@ -1,24 +1,18 @@
 -- The device's high-g is the one that looking back tells, and reads of 0x09 and 0x0C show it. Assumes nothing.
-use Prim.Native.Nat.{ℕ, _-_, _%_, _<_}
-use mathlib.Core.Bool.{Bool, true, false}
+use Prim.Native.Nat.{ℕ, _<_}
 use mathlib.Core.List.{List, [], _∷_}
-use mathlib.Core.Path.{_≡_, refl, sym, ap, _∙_}
+use mathlib.Core.Path.{_≡_, refl, ap, _∙_}
 use native.Mathlib.Omega.{arith}
 use lib.ListN.{getD}
-use Rattle.laws.specs.Choice.{pick, both}
-use Rattle.laws.specs.Bits.{bit}
+use Rattle.laws.specs.Choice.{both}
 use Rattle.laws.proofs.Finite.{picked}
 use Rattle.alarm.specs.Alarm.{marksOf}
 use Rattle.alarm.specs.declared.Alarm.{Alarm}
 use Rattle.alarm.proofs.Laws.{marks-whole}
-use Rattle.registers.specs.declared.Deeds.{Deeds}
-use Rattle.spell.specs.Stopwatch.{stopped}
-use Rattle.spell.specs.Spell.{restarted, clocked, afterSample}
+use Rattle.spell.specs.Spell.{afterSample}
 use Rattle.spell.specs.declared.Spell.{Spell}
-use Rattle.spell.specs.declared.Shown.{Shown}
-use Rattle.detectors.specs.Detectors.{highStatus, highMarks, detectorsSampled, detectorsClocked, detectorsWritten}
+use Rattle.detectors.specs.Detectors.{highStatus, highMarks}
 use Rattle.gravity.specs.Gravity.{highSpell, bothRestarted, bothClocked, highSampled, bothSampled}
-use Rattle.detectors.specs.declared.Detectors.{Detectors}
 use Rattle.events.specs.Event.{Event, read, bytes, gives}
 use Rattle.events.specs.Run.{after}
 use Rattle.events.specs.Bank.{bank}
@@ -26,14 +20,12 @@ use Rattle.paper.specs.Ranges.{isKnownRange}
 use Rattle.paper.specs.Stored.{byteBy}
 use Rattle.paper.specs.Samples.{Values}
 use Rattle.paper.proofs.Stored.{stored-is}
-use Rattle.lookback.specs.InForce.{isNonLatched, timeAsked}
 use Rattle.lookback.proofs.InForce.{latch-is, hold-is}
 use Rattle.lookback.specs.Seen.{isSet, markOf}
 use Rattle.lookback.proofs.Seen.{Lawful}
 use Rattle.lookback.proofs.Marks.{mark-small}
-use Rattle.lasting.specs.Lasting.{delayAsked}
 use Rattle.lasting.proofs.Parts as parts
-use Rattle.lasting.proofs.Parts.{shownBy, Spelled}
+use Rattle.lasting.proofs.Parts.{shownBy, afterShown, Kept, Spelled}
 use Rattle.rules.specs.Shown.{bitSeen}
 use Rattle.rules.proofs.Reading as rules
 use Rattle.lowhigh.specs.High.{Measured, enabledAxes, isSome, highLasting, highG, highMarksByte}
@@ -41,46 +33,27 @@ use Rattle.lowhigh.proofs.Delays.{high-counted}
 use Rattle.lowhigh.proofs.HighPoints.{high-apart, high-one, high-small, high-shown}
 
 -- an accepted sample
-module _ (es : List Event) (v : Values) (s : Spell) where
-  abbrev shown : Shown → Spell
-  shown t = afterSample stopped t (delayAsked highLasting es) (isNonLatched es) (timeAsked es) s
+sampled : (es : List Event) (v : Values) (s : Spell)
+    → highSampled (bank es) (v .x) (v .y) (v .z) s ≡ afterShown highLasting es s (shownBy highLasting (highLasting .pointOf es v))
+unfolding highSampled afterSample
+sampled es v s =
+    let byte : (a : ℕ) → a < 64 → getD (bank es) a 0 ≡ byteBy es a = stored-is es in
+    rw (byte 0x0F (omega arith), byte 0x17 (omega arith), byte 0x21 (omega arith), byte 0x24 (omega arith), byte 0x25 (omega arith), byte 0x26 (omega arith), latch-is (byteBy es 0x21), hold-is (byteBy es 0x21))
+    (high-shown (byteBy es 0x17) (byteBy es 0x0F) (byteBy es 0x26) (byteBy es 0x24) v (afterShown highLasting es s) s refl)
 
-  sampled : highSampled (bank es) (v .x) (v .y) (v .z) s ≡ shown (shownBy highLasting (highLasting .pointOf es v))
-  unfolding highSampled afterSample
-  sampled =
-      let byte : (a : ℕ) → a < 64 → getD (bank es) a 0 ≡ byteBy es a = stored-is es in
-      rw (byte 0x0F (omega arith), byte 0x17 (omega arith), byte 0x21 (omega arith), byte 0x24 (omega arith), byte 0x25 (omega arith), byte 0x26 (omega arith), latch-is (byteBy es 0x21), hold-is (byteBy es 0x21))
-      (high-shown (byteBy es 0x17) (byteBy es 0x0F) (byteBy es 0x26) (byteBy es 0x24) v shown s refl)
-
-written : (d : Deeds) (s : Detectors) → d .resets ≡ false → highSpell (detectorsWritten d s .gravity) ≡ pick (d .restarts .gravity) (restarted stopped (highSpell (s .gravity))) (highSpell (s .gravity))
-unfolding detectorsWritten bothRestarted
-written d s r = rw r (go (d .restarts .gravity))
-  where
-    go : (t : Bool) → highSpell (pick t (bothRestarted (s .gravity)) (s .gravity)) ≡ pick t (restarted stopped (highSpell (s .gravity))) (highSpell (s .gravity))
-    go true = refl
-    go false = refl
-
-clocks : (us : ℕ) (s : Detectors) → highSpell (detectorsClocked us s .gravity) ≡ clocked stopped us (highSpell (s .gravity))
-unfolding detectorsClocked bothClocked
-clocks us s = refl
-
-samples : (es : List Event) (v : Values) (s : Detectors)
-    → highSpell (detectorsSampled (bank es) (v .x) (v .y) (v .z) s .gravity)
-    ≡ afterSample stopped (shownBy highLasting (highLasting .pointOf es v)) (delayAsked highLasting es) (isNonLatched es) (timeAsked es) (highSpell (s .gravity))
-unfolding detectorsSampled bothSampled
-samples es v s = sampled es v (highSpell (s .gravity))
+kept : Kept
+unfolding bothRestarted bothClocked
+kept = record { get = highSpell; quiet-is = refl; restarts = λ g. refl; clocks = λ us g. refl }
 
 spelled : Spelled highLasting
+unfolding kept bothSampled
 spelled = record {
   apart = high-apart;
   one = λ es v. high-one (byteBy es 0x17) (byteBy es 0x0F) (byteBy es 0x26) (byteBy es 0x24) v;
   delays = refl;
   counted = high-counted;
-  get = λ d. highSpell (d .gravity);
-  quiet-is = refl;
-  written = written;
-  clocks = clocks;
-  sampled = samples;
+  kept = kept;
+  samples = λ es v g. sampled es v (highSpell g);
 }
 
 pub lawful : Lawful highG
@@ -94,7 +67,7 @@ small es v =
 
 module _ (es : List Event) where
   alarm-is : after es .detectors .gravity .high ≡ parts.alarmOf highLasting es
-  unfolding spelled
+  unfolding kept spelled
   alarm-is = parts.alarm-is highLasting spelled es
 
   pub high-is : highStatus (after es .detectors) ≡ isSet highG es

@@ -128,6 +128,13 @@ module _ (threshold modes : ℕ) (v : Values) where
   judged-is G16 = judged-by 8 (omega arith)
   judged-is Reserved = refl
 
-  pub low-shown : (code : ℕ) → lowShown code threshold modes (v .x) (v .y) (v .z) ≡ shownBy lowLasting (map (measured threshold modes v) (factorBy code))
-  unfolding lowShown
-  low-shown code = rw (factor-is code) (judged-is (rangeOf code))
+-- together: of whether it is enabled, as the code asks it
+pub low-shown : (enables code threshold modes : ℕ) (v : Values) {A : Type 0} (of : Shown → A) (other : A) → other ≡ of Nothing
+    → pick (bit 3 enables) (of (lowShown code threshold modes (v .x) (v .y) (v .z))) other ≡ of (shownBy lowLasting (pointBy enables code threshold modes v))
+unfolding lowShown
+low-shown enables code threshold modes v of other idle = rw (factor-is code, judged-is threshold modes v (rangeOf code)) (go (bit 3 enables))
+  where
+    go : (t : Bool) → pick t (of (shownBy lowLasting (map (measured threshold modes v) (factorOf (rangeOf code))))) other
+        ≡ of (shownBy lowLasting (pick t (map (measured threshold modes v) (factorOf (rangeOf code))) []))
+    go true = refl
+    go false = idle
