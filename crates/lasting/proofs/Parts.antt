@@ -38,7 +38,7 @@ use Rattle.lookback.proofs.Parts.{judgedBy, Part}
 use Rattle.lookback.proofs.Agrees.{alarmBy, part-is}
 use Rattle.lasting.specs.Run.{lasted}
 use Rattle.lasting.specs.Lasting.{clearing, Lasting, delayAsked, watch}
-use Rattle.lasting.proofs.Runs.{watchOf}
+use Rattle.lasting.proofs.Runs.{watchOf, reached-is}
 use Rattle.lasting.proofs.Spells.{shownAt, spell-judges}
 
 -- one of the two spells that the device keeps together: as at power-up, at a restart and at a clock
@@ -121,18 +121,19 @@ module _ (l : Lasting) (s : Spelled l) where
     unfolding afterSample
     idle n = shown [] n
 
-    judges : (p : l .Point) → l .pointOf es v ≡ p ∷ [] → (ss : List (Sight (l .Point))) → spellAfter es .watch ≡ watchOf (l .isMet) ss
-        → asDetector sampled ≡ record { run = watchOf (l .isMet) (point p ∷ ss); alarm = judgedBy (watch l) (goingBy (watch l) es) p ss (spellAfter es .alarm) }
+    judges : (p : l .Point) → l .pointOf es v ≡ p ∷ [] → (ss : List (Sight (l .Point))) → spellAfter es .watch ≡ watchOf stopped (l .isMet) ss
+        → asDetector sampled ≡ record { run = watchOf stopped (l .isMet) (point p ∷ ss); alarm = judgedBy (watch l) (goingBy (watch l) es) p ss (spellAfter es .alarm) }
     unfolding goingBy
     judges p n ss h =
         shown (p ∷ []) n
-        ∙ spell-judges (l .isMet) (l .isFar) (l .mark) (s .apart) p ss (delayAsked l es) (timeAsked es) (isNonLatched es) (spellAfter es) (s .counted es) h
+        ∙ spell-judges (l .isMet) (l .isFar) (l .mark) stopped (lasted (l .isMet)) (s .apart) p ss (delayAsked l es) (timeAsked es) (isNonLatched es) (spellAfter es)
+        (λ e. reached-is (l .isMet) (delayAsked l es) (s .counted es) (point p ∷ ss) (rw e)) h
 
   part : Part (watch l)
   part = record {
     course = byTime stopped;
     get = λ d. asDetector (spellOf (s .kept) d);
-    runOf = λ g ss. watchOf (l .isMet) ss;
+    runOf = λ g ss. watchOf stopped (l .isMet) ss;
     begins = λ g. refl;
     passes = λ g us ss. refl;
     quiet = ap asDetector (s .kept .quiet-is);

@@ -18,12 +18,15 @@ module _ {P : Type 0} where
   no-clock (point p ∷ ss) h = let z : _≡_ {A = ℕ} 0 1 = cc in absurd (omega arith)
   no-clock (passed us ∷ ss) h = rw h
 
+-- the stopwatch after these sights, of runs that begin with the one that is given
+abbrev pub watchOf : {P : Type 0} → Stopwatch → (P → Bool) → List (Sight P) → Stopwatch
+watchOf fresh isMet [] = fresh
+watchOf fresh isMet (point p ∷ ss) = pick (isMet p) (goingOn (watchOf fresh isMet ss)) fresh
+watchOf fresh isMet (passed us ∷ ss) = longer us (watchOf fresh isMet ss)
+
 module _ {P : Type 0} (isMet : P → Bool) where
-  -- the stopwatch after these sights
-  abbrev pub watchOf : List (Sight P) → Stopwatch
-  watchOf [] = stopped
-  watchOf (point p ∷ ss) = pick (isMet p) (goingOn (watchOf ss)) stopped
-  watchOf (passed us ∷ ss) = longer us (watchOf ss)
+  abbrev watchAt : List (Sight P) → Stopwatch
+  watchAt ss = watchOf stopped isMet ss
 
   -- it runs from the first such sample on, as far as it is counted
   abbrev countOf : Bool → ℕ → ℕ
@@ -58,15 +61,15 @@ module _ {P : Type 0} (isMet : P → Bool) where
         go true f = let c = counts f in rw (c .1, c .0) (omega arith)
         go false f = rw (stands f) (h ∙ rw f)
 
-  counted-point : (p : P) (ss : List (Sight P)) → watchOf ss .count ≡ countOf (hasPoint (run isMet ss)) (lasted isMet ss) → (t : Bool) → isMet p ≡ t
-      → watchOf (point p ∷ ss) .count ≡ countOf (hasPoint (run isMet (point p ∷ ss))) (lasted isMet (point p ∷ ss))
-  counted-point p ss h true e = rw e (point-on ss (watchOf ss) h)
+  counted-point : (p : P) (ss : List (Sight P)) → watchAt ss .count ≡ countOf (hasPoint (run isMet ss)) (lasted isMet ss) → (t : Bool) → isMet p ≡ t
+      → watchAt (point p ∷ ss) .count ≡ countOf (hasPoint (run isMet (point p ∷ ss))) (lasted isMet (point p ∷ ss))
+  counted-point p ss h true e = rw e (point-on ss (watchAt ss) h)
   counted-point p ss h false e = rw e
 
-  counted : (ss : List (Sight P)) → watchOf ss .count ≡ countOf (hasPoint (run isMet ss)) (lasted isMet ss)
+  counted : (ss : List (Sight P)) → watchAt ss .count ≡ countOf (hasPoint (run isMet ss)) (lasted isMet ss)
   counted [] = refl
   counted (point p ∷ ss) = counted-point p ss (counted ss) (isMet p) refl
-  counted (passed us ∷ ss) = passed-on ss (watchOf ss) (counted ss) us
+  counted (passed us ∷ ss) = passed-on ss (watchAt ss) (counted ss) us
 
   -- so far it is counted that every time which is asked for is reached just when the run has lasted for it
   as-far : (time c : ℕ) → time < most → ltb time (1 + min c (most - 1)) ≡ leb time c
@@ -76,5 +79,5 @@ module _ {P : Type 0} (isMet : P → Bool) where
       go true e = let k = leb-true time c e in lt-ltb time (1 + min c (most - 1)) (omega arith)
       go false e = let k = leb-false time c e in le-ltb time (1 + min c (most - 1)) (omega arith)
 
-  pub reached-is : (time : ℕ) → time < most → (ss : List (Sight P)) → hasPoint (run isMet ss) ≡ true → isReached time (watchOf ss) ≡ leb time (lasted isMet ss)
+  pub reached-is : (time : ℕ) → time < most → (ss : List (Sight P)) → hasPoint (run isMet ss) ≡ true → isReached time (watchOf stopped isMet ss) ≡ leb time (lasted isMet ss)
   reached-is time h ss f = rw (counted ss, f) (as-far time (lasted isMet ss) h)

@@ -1,5 +1,5 @@
--- A spell steps as the runs say, for whichever condition. Assumes nothing.
-use Prim.Native.Nat.{ℕ, _<_}
+-- A spell steps as the runs say, for whichever condition, whatever a run begins with and however its time is told. Assumes nothing.
+use Prim.Native.Nat.{ℕ}
 use mathlib.Core.Bool.{Bool, true, false}
 use mathlib.Core.List.{List, [], _∷_}
 use mathlib.Core.Path.{_≡_, refl, sym, ap, _∙_}
@@ -7,7 +7,7 @@ use lib.Dec.{leb}
 use Rattle.laws.specs.Choice.{pick, both}
 use Rattle.alarm.specs.Alarm.{raised, cleared}
 use Rattle.alarm.specs.declared.Alarm.{Alarm}
-use Rattle.spell.specs.Stopwatch.{stopped, most, goingOn, isReached}
+use Rattle.spell.specs.Stopwatch.{goingOn, isReached}
 use Rattle.spell.specs.Spell.{afterMet, afterUnmet, afterSample}
 use Rattle.spell.specs.declared.Stopwatch.{Stopwatch}
 use Rattle.spell.specs.declared.Spell.{Spell}
@@ -16,15 +16,16 @@ use Rattle.spell.specs.declared.Shown.the-variants.{Met, Unmet, FarFromMet}
 use Rattle.spell.proofs.Clock.{asDetector}
 use Rattle.lookback.specs.Sight.{Sight, point}
 use Rattle.lookback.specs.Watch.{Mark}
-use Rattle.lasting.specs.Run.{lasted, isMetFor}
-use Rattle.lasting.proofs.Runs.{watchOf, reached-is}
+use Rattle.lasting.proofs.Runs.{watchOf}
 
 module _ {P : Type 0} (isMet isFar : P → Bool) (mark : P → Mark) where
   -- what a point shows
   abbrev pub shownAt : P → Shown
   shownAt p = pick (isMet p) (Met (mark p .axis) (mark p .negative)) (pick (isFar p) FarFromMet Unmet)
 
-  module _ (apart : (p : P) → isFar p ≡ true → isMet p ≡ false) (p : P) (ss : List (Sight P)) (time hold : ℕ) (unlatched : Bool) (s : Spell) (counted : time < most) (h : s .watch ≡ watchOf isMet ss) where
+  module _ (fresh : Stopwatch) (lasted : List (Sight P) → ℕ) (apart : (p : P) → isFar p ≡ true → isMet p ≡ false) (p : P) (ss : List (Sight P))
+      (time hold : ℕ) (unlatched : Bool) (s : Spell)
+      (counted : isMet p ≡ true → isReached time (watchOf fresh isMet (point p ∷ ss)) ≡ leb time (lasted (point p ∷ ss))) (h : s .watch ≡ watchOf fresh isMet ss) where
     abbrev set : Alarm
     set = raised (mark p .axis) (mark p .negative) hold (s .alarm)
 
@@ -32,17 +33,17 @@ module _ {P : Type 0} (isMet isFar : P → Bool) (mark : P → Mark) where
     unset = cleared (s .alarm)
 
     abbrev reached : Bool
-    reached = leb time (lasted isMet (point p ∷ ss))
+    reached = leb time (lasted (point p ∷ ss))
 
     -- the alarm, by whether the condition is met and whether it is far from met
     abbrev alarmWhen : Bool → Bool → Alarm
     alarmWhen a b = pick (both a reached) set (pick (both unlatched b) unset (s .alarm))
 
     abbrev Judged : Type 0
-    Judged = asDetector (afterSample stopped (shownAt p) time unlatched hold s) ≡ record { run = watchOf isMet (point p ∷ ss); alarm = alarmWhen (isMet p) (isFar p) }
+    Judged = asDetector (afterSample fresh (shownAt p) time unlatched hold s) ≡ record { run = watchOf fresh isMet (point p ∷ ss); alarm = alarmWhen (isMet p) (isFar p) }
 
     abbrev after : Shown → Spell
-    after shown = afterSample stopped shown time unlatched hold s
+    after shown = afterSample fresh shown time unlatched hold s
 
     alarm-by : (a b : Bool) → isMet p ≡ a → isFar p ≡ b → alarmWhen a b ≡ alarmWhen (isMet p) (isFar p)
     alarm-by a b e f = ap (λ (t : Bool). alarmWhen t b) (sym e) ∙ ap (alarmWhen (isMet p)) (sym f)
@@ -52,8 +53,8 @@ module _ {P : Type 0} (isMet isFar : P → Bool) (mark : P → Mark) where
         ap (λ (t : Bool). pick t (Met (mark p .axis) (mark p .negative)) (pick (isFar p) FarFromMet Unmet)) e
         ∙ ap (λ (t : Bool). pick a (Met (mark p .axis) (mark p .negative)) (pick t FarFromMet Unmet)) f
 
-    run-by : (a : Bool) → isMet p ≡ a → pick a (goingOn (s .watch)) stopped ≡ watchOf isMet (point p ∷ ss)
-    run-by a e = ap (λ (w : Stopwatch). pick a (goingOn w) stopped) h ∙ ap (λ (t : Bool). pick t (goingOn (watchOf isMet ss)) stopped) (sym e)
+    run-by : (a : Bool) → isMet p ≡ a → pick a (goingOn (s .watch)) fresh ≡ watchOf fresh isMet (point p ∷ ss)
+    run-by a e = ap (λ (w : Stopwatch). pick a (goingOn w) fresh) h ∙ ap (λ (t : Bool). pick t (goingOn (watchOf fresh isMet ss)) fresh) (sym e)
 
     met : isMet p ≡ true → isFar p ≡ false → Judged
     unfolding afterSample afterMet
@@ -66,7 +67,7 @@ module _ {P : Type 0} (isMet isFar : P → Bool) (mark : P → Mark) where
 
         alarms : pick (isReached time (goingOn (s .watch))) set (s .alarm) ≡ alarmWhen (isMet p) (isFar p)
         alarms =
-            ap (λ (t : Bool). pick t set (s .alarm)) (ap (isReached time) (run-by true e) ∙ reached-is isMet time counted (point p ∷ ss) (rw e))
+            ap (λ (t : Bool). pick t set (s .alarm)) (ap (isReached time) (run-by true e) ∙ counted e)
             ∙ keep reached unlatched ∙ alarm-by true false e f
 
     unmet : isMet p ≡ false → isFar p ≡ false → Judged
