@@ -12,12 +12,12 @@ use Rattle.laws.proofs.Finite.{left, right}
 use Rattle.events.specs.Event.{Event}
 use Rattle.paper.specs.Samples.{microsecondsAt}
 use Rattle.lookback.specs.InForce.{isNonLatched}
-use Rattle.lookback.specs.Sight.{Sight, point, passed, pointsIn}
+use Rattle.lookback.specs.Sight.{Sight, point, passed, pointsIn, clockIn}
 use Rattle.lookback.specs.Watch.{goingBy}
 use Rattle.lookback.specs.Seen.{isSetBy, seen, isSet}
 use Rattle.lookback.specs.Held.{clockOver}
 use Rattle.lookback.proofs.Seen.{Lawful, Next, anew, rest, more, one, none, kept, next}
-use Rattle.lasting.specs.Run.{clockIn, hasPoint, sinceFirst, run, lasted, isMetFor}
+use Rattle.lasting.specs.Run.{hasPoint, sinceFirst, run, lasted, isMetFor}
 use Rattle.lasting.specs.Lasting.{Lasting, delayAsked, watch}
 use Rattle.lasting.proofs.Runs.{no-clock}
 

@@ -4,13 +4,14 @@ use mathlib.Core.Bool.{Bool, true, false}
 use mathlib.Core.List.{List, [], _∷_}
 use mathlib.Core.Path.{_≡_, refl, sym, _∙_}
 use native.Mathlib.Omega.{arith}
-use borrow.Author.Tests.{eq-eqb, ne-eqb, lt-ltb, le-ltb, leb-true, leb-false}
-use lib.Dec.{eqb, ltb, leb}
+use borrow.Author.Tests.{eq-eqb, ne-eqb}
+use lib.Dec.{eqb, leb}
 use Rattle.laws.specs.Choice.{pick}
 use Rattle.spell.specs.Stopwatch.{stopped, started, most, longer, goingOn, isReached}
 use Rattle.spell.specs.declared.Stopwatch.{Stopwatch}
-use Rattle.lookback.specs.Sight.{Sight, point, passed}
-use Rattle.lasting.specs.Run.{clockIn, hasPoint, sinceFirst, run, lasted}
+use Rattle.spell.proofs.Laws.{counted-far}
+use Rattle.lookback.specs.Sight.{Sight, point, passed, clockIn}
+use Rattle.lasting.specs.Run.{hasPoint, sinceFirst, run, lasted}
 
 module _ {P : Type 0} where
   pub no-clock : (ss : List (Sight P)) → hasPoint ss ≡ false → clockIn (sinceFirst ss) ≡ 0
@@ -71,13 +72,5 @@ module _ {P : Type 0} (isMet : P → Bool) where
   counted (point p ∷ ss) = counted-point p ss (counted ss) (isMet p) refl
   counted (passed us ∷ ss) = passed-on ss (watchAt ss) (counted ss) us
 
-  -- so far it is counted that every time which is asked for is reached just when the run has lasted for it
-  as-far : (time c : ℕ) → time < most → ltb time (1 + min c (most - 1)) ≡ leb time c
-  as-far time c h = go (leb time c) refl
-    where
-      go : (t : Bool) → leb time c ≡ t → ltb time (1 + min c (most - 1)) ≡ t
-      go true e = let k = leb-true time c e in lt-ltb time (1 + min c (most - 1)) (omega arith)
-      go false e = let k = leb-false time c e in le-ltb time (1 + min c (most - 1)) (omega arith)
-
   pub reached-is : (time : ℕ) → time < most → (ss : List (Sight P)) → hasPoint (run isMet ss) ≡ true → isReached time (watchOf stopped isMet ss) ≡ leb time (lasted isMet ss)
-  reached-is time h ss f = rw (counted ss, f) (as-far time (lasted isMet ss) h)
+  reached-is time h ss f = rw (counted ss, f) (counted-far time (lasted isMet ss) h)

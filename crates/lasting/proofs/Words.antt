@@ -10,13 +10,13 @@ use lib.Dec.{leb}
 use Rattle.laws.specs.Choice.{pick, both}
 use Rattle.laws.proofs.Finite.{left, right}
 use Rattle.events.specs.Event.{Event}
-use Rattle.lookback.specs.Sight.{Sight, point, passed}
+use Rattle.lookback.specs.Sight.{Sight, point, passed, clockIn}
 use Rattle.lookback.specs.Watch.{goingBy}
 use Rattle.lookback.specs.Seen.{isSet, seen}
 use Rattle.lookback.specs.Came as lookback
 use Rattle.lookback.specs.Came.{NoneClears}
 use Rattle.lookback.proofs.Came as lookback-came
-use Rattle.lasting.specs.Run.{clockIn, hasPoint, sinceFirst, run, lasted, latestIs, isMetFor}
+use Rattle.lasting.specs.Run.{hasPoint, sinceFirst, run, lasted, latestIs, isMetFor}
 use Rattle.lasting.specs.Lasting.{Lasting, delayAsked, watch}
 use Rattle.lasting.specs.Words.{AllAre, NoneIs, MetThrough, CameMet, Came}
 use Rattle.lasting.proofs.Runs.{no-clock}

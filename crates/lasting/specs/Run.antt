@@ -1,19 +1,13 @@
 -- Q-5: "at each sample for .. of clock since the first such sample", of what a detector saw since the last restart or expiry. The latest stands
 -- first.
-use Prim.Native.Nat.{ℕ, _+_}
+use Prim.Native.Nat.{ℕ}
 use mathlib.Core.Bool.{Bool, true, false}
 use mathlib.Core.List.{List, [], _∷_}
 use lib.Dec.{leb}
 use Rattle.laws.specs.Choice.{pick, both}
-use Rattle.lookback.specs.Sight.{Sight, point, passed}
+use Rattle.lookback.specs.Sight.{Sight, point, passed, clockIn}
 
 module _ {P : Type 0} where
-  -- the clock that passed, in microseconds
-  abbrev pub clockIn : List (Sight P) → ℕ
-  clockIn [] = 0
-  clockIn (point p ∷ ss) = clockIn ss
-  clockIn (passed us ∷ ss) = us + clockIn ss
-
   abbrev pub hasPoint : List (Sight P) → Bool
   hasPoint [] = false
   hasPoint (point p ∷ ss) = true

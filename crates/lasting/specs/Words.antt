@@ -5,9 +5,8 @@ use mathlib.Core.List.{List, [], _∷_, _++_}
 use mathlib.Core.Path.{_≡_}
 use Rattle.events.specs.Event.{Event}
 use Rattle.lookback.specs.InForce.{isNonLatched}
-use Rattle.lookback.specs.Sight.{Sight, point, passed}
+use Rattle.lookback.specs.Sight.{Sight, point, passed, clockIn}
 use Rattle.lookback.specs.Seen.{seen}
-use Rattle.lasting.specs.Run.{clockIn}
 use Rattle.lasting.specs.Lasting.{Lasting, delayAsked, watch}
 
 module _ {P : Type 0} where

@@ -9,16 +9,16 @@ use lib.Dec.{leb}
 use lib.ListN.{length}
 use Rattle.laws.specs.Choice.{pick, both}
 use Rattle.laws.proofs.Finite.{right}
-use Rattle.events.specs.Event.{Event, clock}
+use Rattle.events.specs.Event.{Event, write, clock}
 use Rattle.laws.specs.Bits.{worth}
 use Rattle.paper.specs.Samples.{isSample, valuesAt, microsecondsAt}
 use Rattle.lookback.specs.InForce.{beginsAnew}
-use Rattle.lookback.specs.Sight.{point, pointsIn}
+use Rattle.lookback.specs.Sight.{point, pointsIn, clockIn}
 use Rattle.lookback.specs.Watch.{Watch, Going, goingBy, restarts, pointAmong, pointAt}
 use Rattle.lookback.specs.Seen.{isSetBy, sinceBy, seen, isSet, clockSince, expires, setsAt}
 use Rattle.lookback.specs.Held.{clockOver, samplesOver, NoneRestarts, SetFor, Clears, HeldFor}
 use Rattle.lookback.proofs.InForce.{timed-holds}
-use Rattle.lookback.proofs.Seen.{Lawful, Next, anew, rest, more, one, none, kept, expiry-when, seen-expired, next, expiry-clears}
+use Rattle.lookback.proofs.Seen.{Lawful, Next, anew, rest, more, one, none, kept, expiry-when, below, seen-expired, next, expiry-clears}
 use Rattle.lookback.proofs.Stays.{marks-clear, sign-over-expiry}
 
 module _ (w : Watch) (l : Lawful w) where
@@ -123,6 +123,18 @@ module _ (w : Watch) (l : Lawful w) where
     clears = λ us short long. cleared-at es e (s .set) (s .timed) later us (waits es e (s .set) (s .timed) later (s .none) short) long;
   }
 
+  -- ---- no write but those that restart does anything to the status
+  pub write-other : (es : List Event) (a byte : ℕ) → restarts w es (write a byte) ≡ false → isSet w (write a byte ∷ es) ≡ isSet w es
+  unfolding pointAt
+  write-other es a byte n = go (next w l es (write a byte))
+    where
+      go : Next w es (write a byte) → isSet w (write a byte ∷ es) ≡ isSet w es
+      go (anew r s) = let z : _≡_ {A = ℕ} 0 1 = cc in absurd (omega arith)
+      go (rest us is r x s) = cc
+      go (more us is r x s) = cc
+      go (one p m r f s) = cc
+      go (none c m r f s) = rw (s, kept w l es (write a byte) r)
+
   -- ---- no more points than samples: where no point counts, those that count later are no more than the samples that came since
   module _ (es : List Event) (none-left : pointsIn (seen w es) ≡ []) where
     pub points-since : (later : List Event) → length (pointsIn (seen w (later ++ es))) ≤ samplesOver later
@@ -139,4 +151,19 @@ module _ (w : Watch) (l : Lawful w) where
         go few (rest us is r x s) = rw s (omega arith)
         go few (more us is r x s) = rw s (omega (arith, few))
         go few (one p n r f s) = rw s (omega (arith, few, brought p (isSample e) f))
+        go few (none c n r f s) = rw s (omega (arith, few))
+
+  -- ---- no more clock than came: of what is seen, the clock that was waited before and what came since
+  module _ (es : List Event) (waited : ℕ) (so-far : clockIn (seen w es) ≤ waited) where
+    pub clock-since : (later : List Event) → clockIn (seen w (later ++ es)) ≤ waited + clockOver later
+    clock-since [] = omega (arith, so-far)
+    clock-since (e ∷ later) = go (clock-since later) (next w l (later ++ es) e)
+      where
+        go : clockIn (seen w (later ++ es)) ≤ waited + clockOver later → Next w (later ++ es) e → clockIn (seen w (e ∷ (later ++ es))) ≤ waited + (microsecondsAt e + clockOver later)
+        go few (anew r s) = rw s (omega arith)
+        go few (rest us is r x s) =
+            let k = expiry-when w l (later ++ es) e x in
+            rw s (omega (arith, below w l (later ++ es) (k .0) (k .1), ap microsecondsAt is))
+        go few (more us is r x s) = rw s (omega (arith, few, ap microsecondsAt is))
+        go few (one p n r f s) = rw s (omega (arith, few))
         go few (none c n r f s) = rw s (omega (arith, few))

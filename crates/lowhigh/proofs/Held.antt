@@ -8,10 +8,10 @@ use native.Mathlib.Omega.{arith}
 use Rattle.events.specs.Event.{Event, write, clock}
 use Rattle.rules.specs.Shown.{bitSeen}
 use Rattle.lookback.specs.Sight.{Sight, pointsIn}
-use Rattle.lookback.specs.Watch.{restarts, goingBy, pointAt}
-use Rattle.lookback.specs.Seen.{isSetBy, seen, isSet}
+use Rattle.lookback.specs.Watch.{restarts}
+use Rattle.lookback.specs.Seen.{seen, isSet}
 use Rattle.lookback.specs.Held.{clockOver, SetFor}
-use Rattle.lookback.proofs.Seen.{Lawful, Next, anew, rest, more, one, none, kept, next}
+use Rattle.lookback.proofs.Seen.{Lawful}
 use Rattle.lookback.proofs.Held as lookback
 use Rattle.lasting.specs.Lasting.{Lasting, watch}
 use Rattle.lasting.specs.Words.{Came}
@@ -47,15 +47,7 @@ module _ (l : Lasting) (lawful : Lawful (watch l)) (k : ℕ) (shown : (es : List
 
     -- no other write does anything to it
     other : (a byte : ℕ) → restarts (watch l) es (write a byte) ≡ false → bitSeen (write a byte ∷ es) 0x09 k ≡ bitSeen es 0x09 k
-    unfolding pointAt
-    other a byte n = shown (write a byte ∷ es) ∙ go (next (watch l) lawful es (write a byte)) ∙ sym (shown es)
-      where
-        go : Next (watch l) es (write a byte) → isSet (watch l) (write a byte ∷ es) ≡ isSet (watch l) es
-        go (anew r s) = let z : _≡_ {A = ℕ} 0 1 = cc in absurd (omega arith)
-        go (rest us is r x s) = cc
-        go (more us is r x s) = cc
-        go (one p m r f s) = cc
-        go (none c m r f s) = rw (s, kept (watch l) lawful es (write a byte) r)
+    other a byte n = shown (write a byte ∷ es) ∙ lookback.write-other (watch l) lawful es a byte n ∙ sym (shown es)
 
 -- ---- both
 module _ (es : List Event) where

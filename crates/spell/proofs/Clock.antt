@@ -18,7 +18,7 @@ use Rattle.spell.specs.declared.Stopwatch.{Stopwatch}
 use Rattle.spell.specs.declared.Spell.{Spell}
 
 -- of every stopwatch, also of one past the most that is counted
-longer-none : (s : Stopwatch) → longer 0 s ≡ s
+pub longer-none : (s : Stopwatch) → longer 0 s ≡ s
 unfolding longer
 longer-none s = go (eqb (s .count) 0)
   where
@@ -26,7 +26,7 @@ longer-none s = go (eqb (s .count) 0)
     go true = refl
     go false = let n : s .count + min 0 (most - s .count) ≡ s .count = omega arith in rw n
 
-longer-sum : (a b : ℕ) (s : Stopwatch) → longer b (longer a s) ≡ longer (a + b) s
+pub longer-sum : (a b : ℕ) (s : Stopwatch) → longer b (longer a s) ≡ longer (a + b) s
 unfolding longer
 longer-sum a b s = go (eqb (s .count) 0) refl
   where
