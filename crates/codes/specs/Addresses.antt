@@ -24,7 +24,7 @@ axesAt = 0x16
 abbrev pub enablesAt : ℕ
 enablesAt = 0x17
 
--- the axes of slow motion and no motion
+-- slow motion and no-motion: the axes, and which of the two it is
 abbrev pub slowAt : ℕ
 slowAt = 0x18
 
@@ -52,12 +52,16 @@ highDelayAt = 0x25
 abbrev pub highThresholdAt : ℕ
 highThresholdAt = 0x26
 
--- any-motion's points in a row, and its threshold
+-- any-motion's points in a row, with slow motion's and no-motion's code; and any-motion's threshold
 abbrev pub pointsAt : ℕ
 pointsAt = 0x27
 
 abbrev pub thresholdAt : ℕ
 thresholdAt = 0x28
+
+-- the threshold of slow motion and no-motion
+abbrev pub slowThresholdAt : ℕ
+slowThresholdAt = 0x29
 
 -- the watermark's level
 abbrev pub levelAt : ℕ

@@ -3,3 +3,4 @@ pub mod Range
 pub mod Latch
 pub mod Mode
 pub mod Axes
+pub mod Wait

@@ -1,9 +1,10 @@
-// What the codes of 0F, 21 and 3E mean, and the addresses that more than one rule names.
+// What the codes of 0F, 21, 27 and 3E mean, and the addresses that more than one rule names.
 ghost use mathlib.Core.Path.{_≡_};
 ghost use Rattle.codes.specs.Range.{rangeOf, isReservedRange};
 ghost use Rattle.codes.specs.Latch.{latchOf, isUnlatched, holdOf};
 ghost use Rattle.codes.specs.Mode.{modeOf, isReservedMode};
 ghost use Rattle.codes.specs.Axes.{axesOf};
+ghost use Rattle.codes.specs.Wait.{waitCode, waitOf, isReservedWait};
 
 // The measuring range.
 pub const RANGE_AT: usize = 0x0F;
@@ -22,7 +23,7 @@ pub const AXES_AT: usize = 0x16;
 
 pub const ENABLES_AT: usize = 0x17;
 
-// The axes of slow motion and no motion.
+// Slow motion and no-motion: the axes, and which of the two it is.
 pub const SLOW_AT: usize = 0x18;
 
 // The pins' active levels and drives.
@@ -42,10 +43,13 @@ pub const HIGH_DELAY_AT: usize = 0x25;
 
 pub const HIGH_THRESHOLD_AT: usize = 0x26;
 
-// Any-motion's points in a row, and its threshold.
+// Any-motion's points in a row, with slow motion's and no-motion's code; and any-motion's threshold.
 pub const POINTS_AT: usize = 0x27;
 
 pub const THRESHOLD_AT: usize = 0x28;
+
+// The threshold of slow motion and no-motion.
+pub const SLOW_THRESHOLD_AT: usize = 0x29;
 
 // The watermark's level.
 pub const LEVEL_AT: usize = 0x30;
@@ -200,4 +204,31 @@ pub fn axes_of(byte: u8) -> Axes
         0b10 => Axes::Y,
         _ => Axes::Z,
     }
+}
+
+// The code of no-motion's wait in a byte of 0x27; its lowest two bits are slow motion's points.
+pub fn wait_code(byte: u8) -> u8
+    ensures { λ r. ⌜ r ≡ waitCode byte ⌝ }
+{
+    byte / 4 % 64
+}
+
+// For how many microseconds no-motion waits by a code; 0 for a code without a meaning.
+pub fn wait_of(code: u8) -> u32
+    ensures { λ r. ⌜ r ≡ waitOf code ⌝ }
+{
+    let steps = code as u32;
+    match code {
+        0..=15 => (steps + 1) * 1_000_000,
+        16..=21 => (40 + 8 * (steps - 16)) * 1_000_000,
+        32..=63 => (88 + 8 * (steps - 32)) * 1_000_000,
+        _ => 0,
+    }
+}
+
+// Whether a byte of 0x27 has a code without a meaning for no-motion.
+pub fn is_reserved_wait(byte: u8) -> bool
+    ensures { λ r. ⌜ r ≡ isReservedWait byte ⌝ }
+{
+    wait_of(wait_code(byte)) == 0
 }

@@ -5,29 +5,35 @@ use alarm::Alarm;
 use codes::AXES_AT;
 use codes::LATCH_AT;
 use codes::POINTS_AT;
+use codes::SLOW_AT;
+use codes::SLOW_THRESHOLD_AT;
 use codes::THRESHOLD_AT;
 use codes::hold_of;
 use codes::is_unlatched;
 use codes::latch_of;
+use codes::wait_code;
 use gravity::Gravity;
 use motion::Motion;
 use motion::Settings;
 use registers::Deeds;
 use slopes::Previous;
 use slopes::no_axis;
+use slow::Slow;
 
 #[repr(C)]
 pub struct Detectors {
     previous: Previous,
     motion: Motion,
     gravity: Gravity,
+    slow: Slow,
 }
 
-// The alarms of low-g, of high-g and of any-motion.
+// The alarms of low-g, of high-g, of any-motion, and of slow motion and no-motion.
 pub struct Alarms {
     pub low: Alarm,
     pub high: Alarm,
     pub motion: Alarm,
+    pub slow: Alarm,
 }
 
 // What any-motion goes by.
@@ -62,6 +68,31 @@ fn motion_sampled(
     motion.sample(motion_settings(regs), slopes)
 }
 
+// What slow motion and no-motion go by.
+fn slow_settings(regs: &[u8; 64]) -> Settings
+    ensures { λ r. ⌜ r ≡ detectors.slowSettings (now (regs .entry)) ⌝ }
+{
+    let latch = latch_of(regs[LATCH_AT]);
+    Settings {
+        axes: regs[SLOW_AT],
+        points: wait_code(regs[POINTS_AT]),
+        threshold: regs[SLOW_THRESHOLD_AT],
+        unlatched: is_unlatched(latch),
+        hold: hold_of(latch),
+    }
+}
+
+// Slow motion and no-motion after an accepted sample, as any-motion.
+fn slow_sampled(slow: Slow, previous: Previous, regs: &[u8; 64], x: i16, y: i16, z: i16) -> Slow
+    ensures { λ r. ⌜ r ≡ detectors.slowSampled (now (regs .entry)) previous x y z slow ⌝ }
+{
+    if no_axis(regs[SLOW_AT]) {
+        return slow;
+    }
+    let slopes = previous.slopes_to(x, y, z);
+    slow.sample(slow_settings(regs), slopes)
+}
+
 // The previous sample after a write.
 fn previous_written(previous: Previous, forgets: bool) -> Previous
     ensures { λ r. ⌜ r ≡ detectors.previousWritten forgets previous ⌝ }
@@ -92,6 +123,16 @@ fn gravity_written(gravity: Gravity, restarts: bool) -> Gravity
     gravity
 }
 
+// Slow motion and no-motion after a write.
+fn slow_written(slow: Slow, restarts: bool) -> Slow
+    ensures { λ r. ⌜ r ≡ detectors.slowWritten restarts slow ⌝ }
+{
+    if restarts {
+        return slow.restart();
+    }
+    slow
+}
+
 impl Detectors {
     // As at power-up.
     pub fn quiet() -> Self
@@ -101,6 +142,7 @@ impl Detectors {
             previous: Previous::none(),
             motion: Motion::quiet(),
             gravity: Gravity::quiet(),
+            slow: Slow::quiet(),
         }
     }
 
@@ -110,10 +152,12 @@ impl Detectors {
     {
         let motion = self.motion;
         let gravity = self.gravity;
+        let slow = self.slow;
         Alarms {
             low: gravity.low_alarm(),
             high: gravity.high_alarm(),
             motion: motion.alarm(),
+            slow: slow.alarm(),
         }
     }
 
@@ -124,9 +168,11 @@ impl Detectors {
         let previous = self.previous;
         let motion = self.motion;
         let gravity = self.gravity;
+        let slow = self.slow;
         self.previous = Previous::remember(x, y, z);
         self.motion = motion_sampled(motion, previous, regs, x, y, z);
         self.gravity = gravity.sample(regs, x, y, z);
+        self.slow = slow_sampled(slow, previous, regs, x, y, z);
         self
     }
 
@@ -136,8 +182,10 @@ impl Detectors {
     {
         let motion = self.motion;
         let gravity = self.gravity;
+        let slow = self.slow;
         self.motion = motion.clock(microseconds);
         self.gravity = gravity.clock(microseconds);
+        self.slow = slow.clock(microseconds);
         self
     }
 
@@ -151,10 +199,12 @@ impl Detectors {
         let previous = self.previous;
         let motion = self.motion;
         let gravity = self.gravity;
+        let slow = self.slow;
         let restarts = deeds.restarts;
         self.previous = previous_written(previous, deeds.forgets);
         self.motion = motion_written(motion, restarts.motion);
         self.gravity = gravity_written(gravity, restarts.gravity);
+        self.slow = slow_written(slow, restarts.slow);
         self
     }
 }

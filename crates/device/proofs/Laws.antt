@@ -8,6 +8,7 @@ use lib.IntN.{ℤ}
 use lib.ListN.{length}
 use Rattle.motion.proofs.Clock as motion
 use Rattle.gravity.proofs.Clock as gravity
+use Rattle.slow.proofs.Clock as slow
 use Rattle.detectors.specs.Detectors.{detectorsWritten, detectorsClocked}
 use Rattle.registers.specs.Answers.{accepted}
 use Rattle.registers.specs.Deeds.{judgement}
@@ -43,8 +44,8 @@ after-is d a (suc n) = rw (after-is d a n)
 -- clock of 0 changes nothing
 pub clock-sum : (a b : ℕ) (d : Device) → clockOf (clockOf d a .device) b ≡ clockOf d (a + b)
 unfolding clockOf detectorsClocked
-clock-sum a b d = rw (motion.clocked-sum a b (d .detectors .motion), gravity.clocked-sum a b (d .detectors .gravity))
+clock-sum a b d = rw (motion.clocked-sum a b (d .detectors .motion), gravity.clocked-sum a b (d .detectors .gravity), slow.clocked-sum a b (d .detectors .slow))
 
 pub clock-none : (d : Device) → clockOf d 0 .device ≡ d
 unfolding clockOf detectorsClocked
-clock-none d = rw (motion.clocked-none (d .detectors .motion), gravity.clocked-none (d .detectors .gravity))
+clock-none d = rw (motion.clocked-none (d .detectors .motion), gravity.clocked-none (d .detectors .gravity), slow.clocked-none (d .detectors .slow))

@@ -7,6 +7,7 @@ use Rattle.codes.specs.Range.{rangeOf}
 use Rattle.codes.specs.Latch.{latchOf}
 use Rattle.codes.specs.Mode.{modeOf}
 use Rattle.codes.specs.Axes.{axesOf}
+use Rattle.codes.specs.Wait.{waitOf}
 use Rattle.table.specs.Rows.{theTable}
 use Rattle.registers.specs.Refused.{reservedCode, notModelled, lackAt, answerAt, readAnswer}
 use Rattle.registers.specs.Deeds.{deedsOf, judgement, clears}
@@ -24,6 +25,7 @@ use Rattle.spell.specs.Spell as spell
 use Rattle.gravity.specs.Low.{areBelow, judgedLow, lowShown}
 use Rattle.gravity.specs.High.{judgedHigh, highShown}
 use Rattle.gravity.specs.Gravity.{bothRestarted, bothClocked, lowSampled, highSampled, bothSampled}
+use Rattle.slow.specs.Slow as slow
 use Rattle.detectors.specs.Detectors.{detectorsSampled, detectorsClocked, detectorsWritten}
 use Rattle.interrupts.specs.Statuses.{statusesOf}
 use Rattle.interrupts.specs.Maps.{statusByte, isActive}
@@ -36,5 +38,5 @@ use Rattle.device.specs.Sample.{sampleAnswer, afterAccepted, sampleOf, c
 use Rattle.device.specs.Clock.{clockOf}
 
 unfoldable pub theDevice : ℕ
-unfolding bit zeros firstOrZeros movedForward rangeOf latchOf modeOf axesOf theTable reservedCode notModelled lackAt answerAt readAnswer deedsOf judgement clears flatPushed flatRead bytesRead pushedIn readIn bytesIn countIn noFrames code byteAt afterRead lapseOf slopesTo firstOver pointOf overRun calmRun afterOver afterCalm afterSample restarted clocked longer spell.restarted spell.clocked spell.afterMet spell.afterUnmet spell.afterSample areBelow judgedLow lowShown judgedHigh highShown bothRestarted bothClocked lowSampled highSampled bothSampled detectorsSampled detectorsClocked detectorsWritten statusesOf statusByte isActive pinLevel powerUp firstBytes shownByte pinsOf byteFrom afterSingles singleBytes readOf bufferAfter written writeOf sampleAnswer afterAccepted sampleOf cycleOf clockOf
+unfolding bit zeros firstOrZeros movedForward rangeOf latchOf modeOf axesOf waitOf theTable reservedCode notModelled lackAt answerAt readAnswer deedsOf judgement clears flatPushed flatRead bytesRead pushedIn readIn bytesIn countIn noFrames code byteAt afterRead lapseOf slopesTo firstOver pointOf overRun calmRun afterOver afterCalm afterSample restarted clocked longer spell.restarted spell.clocked spell.afterMet spell.afterUnmet spell.afterSample areBelow judgedLow lowShown judgedHigh highShown bothRestarted bothClocked lowSampled highSampled bothSampled slow.restarted slow.clocked slow.noMotionSampled slow.sampled detectorsSampled detectorsClocked detectorsWritten statusesOf statusByte isActive pinLevel powerUp firstBytes shownByte pinsOf byteFrom afterSingles singleBytes readOf bufferAfter written writeOf sampleAnswer afterAccepted sampleOf cycleOf clockOf
 theDevice = 0

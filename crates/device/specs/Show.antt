@@ -36,6 +36,7 @@ sourcesOf regs s = record {
   fell = s .alarms .low .status;
   hit = s .alarms .high .status;
   moved = s .alarms .motion .status;
+  slow = s .alarms .slow .status;
 }
 
 abbrev pub statusesIn : List ℕ → Inside → Statuses

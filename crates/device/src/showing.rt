@@ -30,6 +30,7 @@ fn sources_of(regs: &[u8; 64], inside: Inside) -> Sources
     let low = alarms.low;
     let high = alarms.high;
     let motion = alarms.motion;
+    let slow = alarms.slow;
     Sources {
         count: fifo.count(Device::DEPTH),
         depth: depth_in(Device::DEPTH, mode_of(regs[CONTROL_AT])),
@@ -37,6 +38,7 @@ fn sources_of(regs: &[u8; 64], inside: Inside) -> Sources
         fell: low.is_set(),
         hit: high.is_set(),
         moved: motion.is_set(),
+        slow: slow.is_set(),
     }
 }
 

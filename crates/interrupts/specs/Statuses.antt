@@ -23,6 +23,7 @@ statusesOf regs s =
       low = s .fell;
       high = s .hit;
       motion = s .moved;
+      slow = s .slow;
       -- data: "0x17 bit 4 is 1 and an accepted sample came since the last cycle start or reset"
       ready = both (bit 4 enables) (s .came);
       -- "0x17 bit 6 is 1", and the level is "the level in 0x30"

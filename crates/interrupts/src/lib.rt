@@ -11,7 +11,7 @@ use laws::bit;
 use laws::both;
 
 // What the statuses are made of beside the registers: the frame count and the depth, whether an accepted sample came since the
-// last cycle start or reset, and whether the alarms of low-g, of high-g and of any-motion are set.
+// last cycle start or reset, and whether the alarms of low-g, of high-g, of any-motion, and of slow motion and no-motion are set.
 pub struct Sources {
     pub count: usize,
     pub depth: usize,
@@ -19,13 +19,15 @@ pub struct Sources {
     pub fell: bool,
     pub hit: bool,
     pub moved: bool,
+    pub slow: bool,
 }
 
-// The statuses; `ready` is 01's data.
+// The statuses; `slow` is that of slow motion and no-motion, `ready` is 01's data.
 pub struct Statuses {
     pub low: bool,
     pub high: bool,
     pub motion: bool,
+    pub slow: bool,
     pub ready: bool,
     pub watermark: bool,
     pub full: bool,
@@ -63,6 +65,7 @@ pub fn statuses_of(regs: &[u8; 64], sources: Sources) -> Statuses
         low: sources.fell,
         high: sources.hit,
         motion: sources.moved,
+        slow: sources.slow,
         ready: both(bit(enables, 4), sources.came),
         watermark: both(
             bit(enables, 6),
@@ -83,7 +86,8 @@ fn weigh(weight: u8, set: bool) -> u8
 pub fn detector_byte(statuses: Statuses) -> u8
     ensures { λ r. ⌜ r ≡ statusByte 0x09 statuses ⌝ }
 {
-    weigh(1, statuses.low) + (weigh(2, statuses.high) + weigh(4, statuses.motion))
+    weigh(1, statuses.low)
+        + (weigh(2, statuses.high) + (weigh(4, statuses.motion) + weigh(8, statuses.slow)))
 }
 
 // The byte of 0x0A.
@@ -100,10 +104,11 @@ fn any_mapped(statuses: Statuses, mapped: Statuses) -> bool
     let low = both(statuses.low, mapped.low);
     let high = both(statuses.high, mapped.high);
     let motion = both(statuses.motion, mapped.motion);
+    let slow = both(statuses.slow, mapped.slow);
     let ready = both(statuses.ready, mapped.ready);
     let watermark = both(statuses.watermark, mapped.watermark);
     let full = both(statuses.full, mapped.full);
-    low | (high | (motion | (ready | (watermark | full))))
+    low | (high | (motion | (slow | (ready | (watermark | full)))))
 }
 
 // Which statuses are mapped to a pin.
@@ -118,6 +123,7 @@ fn mapped_to(pin: Pin, regs: &[u8; 64]) -> Statuses
                 low: bit(detectors, 0),
                 high: bit(detectors, 1),
                 motion: bit(detectors, 2),
+                slow: bit(detectors, 3),
                 ready: bit(maps, 0),
                 watermark: bit(maps, 1),
                 full: bit(maps, 2),
@@ -129,6 +135,7 @@ fn mapped_to(pin: Pin, regs: &[u8; 64]) -> Statuses
                 low: bit(detectors, 0),
                 high: bit(detectors, 1),
                 motion: bit(detectors, 2),
+                slow: bit(detectors, 3),
                 ready: bit(maps, 7),
                 watermark: bit(maps, 6),
                 full: bit(maps, 5),

@@ -9,6 +9,7 @@ use Rattle.slopes.specs.Runs.{noRuns, overRun, calmRun}
 use Rattle.slopes.specs.declared.Slopes.{Slopes}
 use Rattle.slopes.specs.declared.Point.{Point}
 use Rattle.slopes.specs.declared.Point.the-variants.{None, Calm, Over}
+use Rattle.alarm.specs.declared.Alarm.{Alarm}
 use Rattle.alarm.specs.declared.Lapse.{Lapse}
 use Rattle.alarm.specs.declared.Lapse.the-variants.{Stands, Expires}
 use Rattle.motion.specs.declared.Motion.{Motion}
@@ -18,7 +19,11 @@ use Rattle.motion.specs.declared.Settings.{Settings}
 abbrev pub quiet : Motion
 quiet = record { runs = noRuns; alarm = off }
 
--- "N is 0x27 bits 1:0 plus 1"
+-- with another alarm
+abbrev pub withAlarm : Alarm → Motion → Motion
+withAlarm a m = record { runs = m .runs; alarm = a }
+
+-- "N is 0x27 bits 1:0 plus 1"; of slow motion, by Q-6, "from 0x27 bits 3:2 plus 1"
 abbrev pub pointsNeeded : Settings → ℕ
 pointsNeeded s = s .points % 4 + 1
 

@@ -1,6 +1,6 @@
-// The any-motion detector of 01: the points of the slopes, their runs, and an alarm.
+// A detector by points in a row, as 01's any-motion is: the points of the slopes, their runs, and an alarm.
 ghost use mathlib.Core.Path.{_≡_};
-ghost use Rattle.motion.specs.Detector.{quiet, pointsNeeded, afterOver, afterCalm, afterSample, restarted, clocked};
+ghost use Rattle.motion.specs.Detector.{quiet, withAlarm, pointsNeeded, afterOver, afterCalm, afterSample, restarted, clocked};
 use alarm::Alarm;
 use alarm::Lapse;
 use slopes::Point;
@@ -8,8 +8,8 @@ use slopes::Runs;
 use slopes::Slopes;
 use slopes::judge;
 
-// What the registers say: the bytes of 0x16, 0x27 and 0x28, whether 0x21 is non-latched, and for how many microseconds it holds a status,
-// 0 for no time.
+// What the registers say, of any-motion the bytes of 0x16, 0x27 and 0x28: the axes, of the points in a row the lowest two bits, and the
+// threshold; whether 0x21 is non-latched, and for how many microseconds it holds a status, 0 for no time.
 pub struct Settings {
     pub axes: u8,
     pub points: u8,
@@ -48,6 +48,14 @@ impl Motion {
         ensures { λ r. ⌜ r ≡ self .alarm ⌝ }
     {
         self.alarm
+    }
+
+    // With another alarm.
+    pub fn with_alarm(mut self, alarm: Alarm) -> Self
+        ensures { λ r. ⌜ r ≡ withAlarm alarm self ⌝ }
+    {
+        self.alarm = alarm;
+        self
     }
 
     // Status, marks and runs are cleared.

@@ -5,7 +5,7 @@ use mathlib.Core.Bool.{Bool, true, false, not}
 use mathlib.Core.List.{List, [], _∷_}
 use mathlib.Core.Path.{_≡_, refl, _∙_}
 use native.Mathlib.Omega.{arith}
-use lib.Dec.{eqb, ltb}
+use lib.Dec.{eqb, leb, ltb}
 use lib.ListN.{getD}
 use borrow.Author.Tests.{ltb-true, ltb-false, le-leb, lt-leb}
 use Rattle.laws.specs.Bits.{bit}
@@ -19,13 +19,14 @@ use Rattle.codes.specs.Mode as mode
 use Rattle.codes.specs.Mode.{modeOf}
 use Rattle.codes.specs.Range as range
 use Rattle.codes.specs.Range.{rangeOf}
+use Rattle.codes.specs.Wait as wait
 use Rattle.table.specs.Rows.{rowAt, theTable}
 use Rattle.registers.specs.Answers.{number, accepted}
 use Rattle.registers.specs.Refused.{writeAnswer, answerAt, reservedCode, notModelled, lackAt}
 use Rattle.registers.specs.declared.Answer.the-variants.{Done, ReservedCode}
 use Rattle.registers.proofs.Answers.{lack-any, lack-refused}
 use Rattle.paper.specs.Ranges.{isKnownRange}
-use Rattle.paper.specs.Refused.{isReservedWrite, isDetectorWrite, isPowerModeWrite, isTestOrTrimWrite, isLacking, accepts}
+use Rattle.paper.specs.Refused.{meansNoWait, isReservedWrite, isDetectorWrite, isPowerModeWrite, isTestOrTrimWrite, isLacking, accepts}
 use Rattle.paper.proofs.Bits.{shareOne, share-one}
 
 -- ---- 2
@@ -48,13 +49,17 @@ pub reserved-mode : (byte : ℕ) → mode.isReservedMode (modeOf byte) ≡ not (
 unfolding modeOf
 reserved-mode byte = means-other mode.isReservedMode _ refl mode.modes (refl, (refl, (refl, tt))) (byte / 64)
 
+reserved-wait : (byte : ℕ) → wait.isReservedWait byte ≡ meansNoWait byte
+unfolding wait.waitOf
+reserved-wait byte = alike (λ c. eqb (wait.waitOf c) 0) (λ c. both (leb 22 c) (leb c 31)) 64 refl (byte / 4 % 64) (omega arith)
+
 module _ (regs : List ℕ) where
   abbrev pub heldIn : ℕ → ℕ
   heldIn a = getD regs a 0
 
   pub reserved-is : (a b : ℕ) → a < 64 → reservedCode regs a b ≡ isReservedWrite heldIn a b
   unfolding reservedCode isReservedWrite
-  reserved-is a b = alike (λ i. reservedCode regs i b) (λ i. isReservedWrite heldIn i b) 64 (rw (reserved-range b, reserved-mode b)) a
+  reserved-is a b = alike (λ i. reservedCode regs i b) (λ i. isReservedWrite heldIn i b) 64 (rw (reserved-range b, reserved-mode b, reserved-wait b, reserved-wait (getD regs 0x27 0))) a
 
 -- ---- 11 to 13
 -- the bits that are refused at an address are of a byte

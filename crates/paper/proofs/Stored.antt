@@ -41,7 +41,7 @@ soft-reset-is a byte = refl
 -- what is accepted depends on what the addresses of the table hold
 same-accepts : (held held′ : ℕ → ℕ) → ((k : ℕ) → k < 64 → held k ≡ held′ k) → (a b : ℕ) → accepts held a b ≡ accepts held′ a b
 unfolding accepts isReservedWrite
-same-accepts held held′ same a b = rw (same 0x0F (omega arith), same 0x3E (omega arith))
+same-accepts held held′ same a b = rw (same 0x0F (omega arith), same 0x18 (omega arith), same 0x27 (omega arith), same 0x3E (omega arith))
 
 -- what holds of the reset byte, and of what each accepted write to an address leaves there, holds of the byte that it stores
 module _ (P : ℕ → Type 0) (a : ℕ) (first : P (resetOf a)) (left-by : (es : List Event) (byte : ℕ) → isAccepted es a byte ≡ true → P (masked a byte)) where

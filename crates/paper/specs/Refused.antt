@@ -1,6 +1,6 @@
--- 01, "Numbers given back" and "Register table", Q-1 and Q-4: which writes are refused, in their words. No contract cites this: proofs/Refused
+-- 01, "Numbers given back" and "Register table", Q-1, Q-4, Q-5 and Q-6: which writes are refused, in their words. No contract cites this: proofs/Refused
 -- holds the definitions that the contracts cite against it.
-use Prim.Native.Nat.{ℕ, _/_}
+use Prim.Native.Nat.{ℕ, _/_, _%_}
 use mathlib.Core.Bool.{Bool, false, not}
 use mathlib.Core.List.{List, [], _∷_}
 use lib.Dec.{eqb, leb}
@@ -15,6 +15,10 @@ use Rattle.paper.specs.Ranges.{isKnownRange}
 abbrev pub wouldHold : (ℕ → ℕ) → ℕ → ℕ → ℕ → ℕ
 wouldHold held a b k = pick (eqb a k) b (held k)
 
+-- Q-6, of the byte of 0x27: "by 0x27 bits 7:2 .. Codes 22 to 31 have no meaning there"
+abbrev pub meansNoWait : ℕ → Bool
+meansNoWait byte = let code = byte / 4 % 64 in both (leb 22 code) (leb code 31)
+
 -- 2, "write of a code the sheet reserves". A row names the addresses whose writes it refuses, and asks what the addresses would hold
 unfoldable pub isReservedWrite : (ℕ → ℕ) → ℕ → ℕ → Bool
 isReservedWrite held a b =
@@ -22,19 +26,18 @@ isReservedWrite held a b =
     pick (eqb a 0x0F) (not (isKnownRange (wouldHold held a b 0x0F)))
     -- "3E: bits 7:6 are 00 .., 01 .., 10 ..; 11 is refused 2"
     (pick (eqb a 0x3E) (not (isIn (0b00 ∷ 0b01 ∷ 0b10 ∷ []) (wouldHold held a b 0x3E / 64)))
-    false)
+    -- Q-6: "2 for the write to 0x18 or 0x27 that would bring no-motion and such a code together", with "bit 3 choosing no-motion"
+    (pick (isIn (0x18 ∷ 0x27 ∷ []) a) (both (bit 3 (wouldHold held a b 0x18)) (meansNoWait (wouldHold held a b 0x27)))
+    false))
 
 -- "a 1 in" bits of a byte
 abbrev pub oneIn : List ℕ → ℕ → Bool
 oneIn [] b = false
 oneIn (p ∷ ps) b = either (bit p b) (oneIn ps b)
 
--- 11, "a detector bit in 0x16 to 0x18": "a 1 in .. 0x16 bits 7:4, .. 0x18 bits 2:0"; Q-5: "11 no longer for 0x17"
+-- 11, "a detector bit in 0x16 to 0x18": "a 1 in .. 0x16 bits 7:4"; Q-5: "11 no longer for 0x17", and Q-6: "11 no longer for 0x18"
 unfoldable pub isDetectorWrite : ℕ → ℕ → Bool
-isDetectorWrite a b =
-    pick (eqb a 0x16) (oneIn (7 ∷ 6 ∷ 5 ∷ 4 ∷ []) b)
-    (pick (eqb a 0x18) (oneIn (2 ∷ 1 ∷ 0 ∷ []) b)
-    false)
+isDetectorWrite a b = pick (eqb a 0x16) (oneIn (7 ∷ 6 ∷ 5 ∷ 4 ∷ []) b) false
 
 -- 12, "a power mode in 0x11": "a 1 in 0x11 bits 7:5"
 unfoldable pub isPowerModeWrite : ℕ → ℕ → Bool

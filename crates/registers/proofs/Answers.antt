@@ -24,7 +24,7 @@ zero-accepted NoTestOrTrim = refl
 -- Q-1: what holds of each of the three holds of what is lacking at any address
 pub lack-any : (P : Answer → Type 0) → P NoDetector → P NoPowerMode → P NoTestOrTrim → (a : ℕ) → P (lackAt a)
 unfolding lackAt
-lack-any P detector power trim a = any-meaning P lacks NoTestOrTrim (power, (detector, (detector, tt))) trim a
+lack-any P detector power trim a = any-meaning P lacks NoTestOrTrim (power, (detector, tt)) trim a
 
 pub lack-refused : (a : ℕ) → accepted (lackAt a) ≡ false
 lack-refused = lack-any (λ x. accepted x ≡ false) refl refl refl

@@ -6,7 +6,7 @@ use lib.Dec.{eqb}
 use Rattle.laws.specs.Choice.{pick, both, either}
 use Rattle.laws.specs.Lists.{isIn}
 use Rattle.laws.specs.Bits.{bit}
-use Rattle.codes.specs.Addresses.{rangeAt, shadowAt, resetAt, axesAt, enablesAt, latchAt, lowDelayAt, lowThresholdAt, hysteresesAt, highDelayAt, highThresholdAt, pointsAt, thresholdAt, controlAt}
+use Rattle.codes.specs.Addresses.{rangeAt, shadowAt, resetAt, axesAt, enablesAt, slowAt, latchAt, lowDelayAt, lowThresholdAt, hysteresesAt, highDelayAt, highThresholdAt, pointsAt, thresholdAt, slowThresholdAt, controlAt}
 use Rattle.codes.specs.Mode.{modeOf, isReservedMode}
 use Rattle.table.specs.Rows.{rowAt, merged}
 use Rattle.table.specs.declared.Row.{Row}
@@ -33,6 +33,10 @@ abbrev pub gravityRestarting : List ℕ
 gravityRestarting =
     rangeAt ∷ enablesAt ∷ latchAt ∷ lowDelayAt ∷ lowThresholdAt ∷ hysteresesAt ∷ highDelayAt ∷ highThresholdAt ∷ []
 
+-- Q-6: "an accepted write to 0x0F, 0x18, 0x21, 0x27 or 0x29 restarts it"
+abbrev pub slowRestarting : List ℕ
+slowRestarting = rangeAt ∷ slowAt ∷ latchAt ∷ pointsAt ∷ slowThresholdAt ∷ []
+
 -- what an accepted write does
 unfoldable pub deedsOf : List ℕ → Row → ℕ → ℕ → Deeds
 deedsOf regs r a b = record {
@@ -44,13 +48,13 @@ deedsOf regs r a b = record {
   releases = both (eqb a shadowAt) (bit 6 b);
   -- "0x0F also forgets the previous sample"
   forgets = eqb a rangeAt;
-  restarts = record { motion = isIn motionRestarting a; gravity = isIn gravityRestarting a };
+  restarts = record { motion = isIn motionRestarting a; gravity = isIn gravityRestarting a; slow = isIn slowRestarting a };
   resets = isReset a b;
 }
 
 -- what a refused write does
 abbrev pub noDeeds : Deeds
-noDeeds = record { stores = false; empties = false; releases = false; forgets = false; restarts = record { motion = false; gravity = false }; resets = false }
+noDeeds = record { stores = false; empties = false; releases = false; forgets = false; restarts = record { motion = false; gravity = false; slow = false }; resets = false }
 
 abbrev pub deedsWhen : Bool → List ℕ → Row → ℕ → ℕ → Deeds
 deedsWhen ok regs r a b = pick ok (deedsOf regs r a b) noDeeds

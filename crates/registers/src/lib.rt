@@ -2,7 +2,7 @@
 ghost use mathlib.Core.Path.{_≡_};
 ghost use Rattle.registers.specs.Answers.{number, place, accepted};
 ghost use Rattle.registers.specs.Refused.{reservedCode, notModelled, lackAt, answerAt, readAnswer};
-ghost use Rattle.registers.specs.Deeds.{isReset, motionRestarting, gravityRestarting, deedsOf, deedsWhen, judgementAt, judgement};
+ghost use Rattle.registers.specs.Deeds.{isReset, motionRestarting, gravityRestarting, slowRestarting, deedsOf, deedsWhen, judgementAt, judgement};
 ghost use Rattle.laws.specs.Lists.{isIn};
 use codes::AXES_AT;
 use codes::CONTROL_AT;
@@ -20,9 +20,11 @@ use codes::RANGE_AT;
 use codes::RESET_AT;
 use codes::SHADOW_AT;
 use codes::SLOW_AT;
+use codes::SLOW_THRESHOLD_AT;
 use codes::THRESHOLD_AT;
 use codes::is_reserved_mode;
 use codes::is_reserved_range;
+use codes::is_reserved_wait;
 use codes::mode_of;
 use codes::range_of;
 use laws::bit;
@@ -51,10 +53,11 @@ pub enum Answer {
     NoTestOrTrim,
 }
 
-// Which detectors a write starts anew: any-motion; low-g and high-g.
+// Which detectors a write starts anew: any-motion; low-g and high-g; slow motion and no-motion.
 pub struct Restarts {
     pub motion: bool,
     pub gravity: bool,
+    pub slow: bool,
 }
 
 // What a write does: its byte is stored; the FIFO is emptied and its overrun cleared; the locks are released; the previous sample is
@@ -77,6 +80,7 @@ const NO_DEEDS: Deeds = Deeds {
     restarts: Restarts {
         motion: false,
         gravity: false,
+        slow: false,
     },
     resets: false,
 };
@@ -136,7 +140,7 @@ pub fn is_accepted(answer: Answer) -> bool
     }
 }
 
-// Whether a write is of a code that the sheet reserves.
+// Whether a write is of a code that the sheet reserves, or would bring no-motion and a code without a meaning for it together.
 fn is_reserved_code(regs: &[u8; 64], address: u8, byte: u8) -> bool
     ensures { λ r. ⌜ r ≡ reservedCode (now (regs .entry)) address byte ⌝ }
 {
@@ -144,6 +148,8 @@ fn is_reserved_code(regs: &[u8; 64], address: u8, byte: u8) -> bool
     match at {
         RANGE_AT => is_reserved_range(range_of(byte)),
         CONTROL_AT => is_reserved_mode(mode_of(byte)),
+        SLOW_AT => both(bit(byte, 3), is_reserved_wait(regs[POINTS_AT])),
+        POINTS_AT => both(bit(regs[SLOW_AT], 3), is_reserved_wait(byte)),
         _ => false,
     }
 }
@@ -163,7 +169,6 @@ fn lack_at(address: u8) -> Answer
     match at {
         POWER_AT => Answer::NoPowerMode,
         AXES_AT => Answer::NoDetector,
-        SLOW_AT => Answer::NoDetector,
         _ => Answer::NoTestOrTrim,
     }
 }
@@ -246,6 +251,21 @@ fn restarts_gravity(address: u8) -> bool
     }
 }
 
+// Whether slow motion and no-motion start anew at an accepted write.
+fn restarts_slow(address: u8) -> bool
+    ensures { λ r. ⌜ r ≡ isIn slowRestarting address ⌝ }
+{
+    let at = address as usize;
+    match at {
+        RANGE_AT => true,
+        SLOW_AT => true,
+        LATCH_AT => true,
+        POINTS_AT => true,
+        SLOW_THRESHOLD_AT => true,
+        _ => false,
+    }
+}
+
 // What an accepted write does.
 fn deeds_of(regs: &[u8; 64], row: Row, address: u8, byte: u8) -> Deeds
     ensures { λ r. ⌜ r ≡ deedsOf (now (regs .entry)) row address byte ⌝ }
@@ -255,6 +275,7 @@ fn deeds_of(regs: &[u8; 64], row: Row, address: u8, byte: u8) -> Deeds
     let restarts = Restarts {
         motion: restarts_motion(address),
         gravity: restarts_gravity(address),
+        slow: restarts_slow(address),
     };
     Deeds {
         stores: row.1 != 0,

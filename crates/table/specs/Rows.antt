@@ -46,7 +46,7 @@ paperLineOf a = find listed a (pick (isIn reservedAddresses a) (line a 0xFF 0) (
 -- "Refused 3: a 1 in .."; by Q-1 the number is the register's. An address, with those bits as the mask
 unfoldable pub refusedBits : List PaperLine
 refusedBits =
-    line 0x11 0 0xE0 ∷ line 0x16 0 0xF0 ∷ line 0x18 0 0x07 ∷ line 0x32 0 0x03 ∷ line 0x33 0 0x0B ∷
+    line 0x11 0 0xE0 ∷ line 0x16 0 0xF0 ∷ line 0x32 0 0x03 ∷ line 0x33 0 0x0B ∷
     line 0x36 0 0xE7 ∷ line 0x38 0 0xFF ∷ line 0x39 0 0xFF ∷ line 0x3A 0 0xFF ∷ []
 
 unfoldable pub rowOf : ℕ → Row

@@ -169,7 +169,7 @@ pub extern "C" fn twin_4_proved_pins(d: &Harness) -> u8
 pub extern "C" fn twin_4_proved_size() -> usize
     ensures { λ r. ⌜ r ≡ size harnessType ⌝ }
 {
-    336
+    352
 }
 
 #[no_mangle]

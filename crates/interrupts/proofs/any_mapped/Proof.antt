@@ -12,9 +12,11 @@ any-mapped-spec =
     (λ c κs. tt)
     (λ c κs. tt)
     (λ c κs. tt)
+    (λ c κs. tt)
     (λ c.
     let watermark = c .before in
     let ready = watermark .before in
-    let motion = ready .before in
+    let slow = ready .before in
+    let motion = slow .before in
     let high = motion .before in
-    simp (c .both6 .ensures, watermark .both5 .ensures, ready .both4 .ensures, motion .both3 .ensures, high .both2 .ensures, high .before .both .ensures, either-false)))
+    simp (c .both7 .ensures, watermark .both6 .ensures, ready .both5 .ensures, slow .both4 .ensures, motion .both3 .ensures, high .both2 .ensures, high .before .both .ensures, either-false)))

@@ -13,10 +13,23 @@ detector-byte-spec =
     (λ c κs. tt)
     (λ c κs. tt)
     (λ c κs. tt)
+    (λ c κs. tt)
     (λ c.
-    let s = c .before .before .before .args .statuses in
-    omega (arith, c .before .weigh2 .ensures, c .weigh3 .ensures, worth-most 2 (s .high), worth-most 4 (s .motion)))
+    let motion = c .before in
+    let s = motion .before .before .before .args .statuses in
+    omega (arith, motion .weigh3 .ensures, c .weigh4 .ensures, worth-most 4 (s .motion), worth-most 8 (s .slow)))
     (λ c.
-    let s = c .before .before .before .args .statuses in
-    omega (arith, c .before .before .weigh .ensures, c .before .weigh2 .ensures, c .weigh3 .ensures, worth-most 1 (s .low), worth-most 2 (s .high), worth-most 4 (s .motion)))
-    (λ c. simp (c .weigh3 .ensures, c .before .weigh2 .ensures, c .before .before .weigh .ensures, add-zero)))
+    let motion = c .before in
+    let high = motion .before in
+    let s = high .before .before .args .statuses in
+    omega (arith, high .weigh2 .ensures, motion .weigh3 .ensures, c .weigh4 .ensures, worth-most 2 (s .high), worth-most 4 (s .motion), worth-most 8 (s .slow)))
+    (λ c.
+    let motion = c .before in
+    let high = motion .before in
+    let low = high .before in
+    let s = low .before .args .statuses in
+    omega (arith, low .weigh .ensures, high .weigh2 .ensures, motion .weigh3 .ensures, c .weigh4 .ensures, worth-most 1 (s .low), worth-most 2 (s .high), worth-most 4 (s .motion), worth-most 8 (s .slow)))
+    (λ c.
+    let motion = c .before in
+    let high = motion .before in
+    simp (c .weigh4 .ensures, motion .weigh3 .ensures, high .weigh2 .ensures, high .before .weigh .ensures, add-zero)))

@@ -12,8 +12,10 @@ deeds-of-spec =
     (λ c κs. tt)
     (λ c κs. tt)
     (λ c κs. tt)
+    (λ c κs. tt)
     (λ c.
     let b = c .before in
-    let g = b .before .before in
+    let s = b .before .before in
+    let g = s .before in
     let m = g .before in
-    simp (← m .before .is-reset .ensures, ← m .restarts-motion .ensures, ← g .restarts-gravity .ensures, ← b .bit .ensures, ← c .both .ensures)))
+    simp (← m .before .is-reset .ensures, ← m .restarts-motion .ensures, ← g .restarts-gravity .ensures, ← s .restarts-slow .ensures, ← b .bit .ensures, ← c .both .ensures)))

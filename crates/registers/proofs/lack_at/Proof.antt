@@ -10,5 +10,4 @@ lack-at-spec =
     (tie.spec
     (λ c. simp (c .match .keys1))
     (λ c. simp (c .match .keys2))
-    (λ c. simp (c .match .keys3))
     (λ c. rest _ lacks _ _ (c .match .rest)))

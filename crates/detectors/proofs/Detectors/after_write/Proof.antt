@@ -12,8 +12,10 @@ after-write-spec =
     (λ c κs. tt)
     (λ c κs. tt)
     (λ c κs. tt)
+    (λ c κs. tt)
     (λ c.
-    let motion = c .before in
+    let gravity = c .before in
+    let motion = gravity .before in
     let previous = motion .before in
-    let kept = previous .before .before .before .before .before .if1 .left in
-    rw (kept, c .gravity-written .ensures, motion .motion-written .ensures, previous .previous-written .ensures)))
+    let kept = previous .before .before .before .before .before .before .if1 .left in
+    rw (kept, c .slow-written .ensures, gravity .gravity-written .ensures, motion .motion-written .ensures, previous .previous-written .ensures)))

@@ -8,4 +8,7 @@ alarms-spec =
     (λ c κs. tt)
     (λ c κs. tt)
     (λ c κs. tt)
-    (λ c. simp (c .alarm .ensures, c .before .high-alarm .ensures, c .before .before .low-alarm .ensures)))
+    (λ c κs. tt)
+    (λ c.
+    let motion = c .before in
+    simp (c .alarm2 .ensures, motion .alarm .ensures, motion .before .high-alarm .ensures, motion .before .before .low-alarm .ensures)))

@@ -9,4 +9,5 @@ clock-spec =
     (tie.spec
     (λ c κs. tt)
     (λ c κs. tt)
-    (λ c. simp (c .clock2 .ensures, c .before .clock .ensures)))
+    (λ c κs. tt)
+    (λ c. simp (c .clock3 .ensures, c .before .clock2 .ensures, c .before .before .clock .ensures)))

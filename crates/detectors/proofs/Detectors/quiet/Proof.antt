@@ -8,4 +8,5 @@ quiet-spec =
     (λ c κs. tt)
     (λ c κs. tt)
     (λ c κs. tt)
-    (λ c. simp (c .quiet2 .ensures, c .before .quiet .ensures, c .before .before .none .ensures)))
+    (λ c κs. tt)
+    (λ c. simp (c .quiet3 .ensures, c .before .quiet2 .ensures, c .before .before .quiet .ensures, c .before .before .before .none .ensures)))

@@ -11,8 +11,10 @@ sample-spec =
     (λ c κs. tt)
     (λ c κs. tt)
     (λ c κs. tt)
+    (λ c κs. tt)
     (λ c.
-    let motion = c .before in
+    let gravity = c .before in
+    let motion = gravity .before in
     let remember = motion .before in
-    let f = remember .before .before .before .before .fits in
-    simp (c .sample .ensures, motion .motion-sampled .ensures, remember .remember .ensures, toZ-ofZ (f .x), toZ-ofZ (f .y), toZ-ofZ (f .z))))
+    let f = remember .before .before .before .before .before .fits in
+    simp (c .slow-sampled .ensures, gravity .sample .ensures, motion .motion-sampled .ensures, remember .remember .ensures, toZ-ofZ (f .x), toZ-ofZ (f .y), toZ-ofZ (f .z))))

@@ -13,9 +13,11 @@ sources-of-spec =
     (λ c κs. tt)
     (λ c κs. tt)
     (λ c κs. tt)
+    (λ c κs. tt)
     (λ c.
-    let high = c .before in
+    let motion = c .before in
+    let high = motion .before in
     let low = high .before in
     let depth = low .before in
     let mode = depth .before in
-    simp (c .is-set3 .ensures, high .is-set2 .ensures, low .is-set .ensures, depth .depth-in .ensures, mode .mode-of .ensures, mode .before .before .count .ensures)))
+    simp (c .is-set4 .ensures, motion .is-set3 .ensures, high .is-set2 .ensures, low .is-set .ensures, depth .depth-in .ensures, mode .mode-of .ensures, mode .before .before .count .ensures)))
