@@ -29,6 +29,7 @@ use Rattle.history.proofs.Conserve.{demand3, device-holds}
 use Rattle.lowhigh.proofs.Low.{low-is}
 use Rattle.lowhigh.proofs.High.{high-is}
 use Rattle.lowhigh.proofs.High as high
+use Rattle.slowmotion.proofs.Detector.{slow-is}
 use Rattle.anymotion.proofs.Detector.{detector-is}
 use Rattle.anymotion.proofs.Promise.{marks-are}
 use Rattle.rules.specs.Shown.{bitSeen}
@@ -45,7 +46,7 @@ unfolding elsewhere packed statusesOf
 elsewhere-is es = λ i. record {
   count = device-holds es i .count;
   overrun = device-holds es i .overrun;
-  statuses = status 0x09 0 (low-is es i) ∷ status 0x09 1 (high-is es i) ∷ status 0x09 2 (detector-is es i .alarm .status) ∷ [];
+  statuses = status 0x09 0 (low-is es i) ∷ status 0x09 1 (high-is es i) ∷ status 0x09 2 (detector-is es i .alarm .status) ∷ status 0x09 3 (slow-is es i) ∷ [];
   marks = 0x0B means marks-are es i ∷ 0x0C means high.marks-are es i ∷ [];
 }
 

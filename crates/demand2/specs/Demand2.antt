@@ -19,6 +19,7 @@ use Rattle.history.specs.History.{accelerometer}
 use Rattle.lookback.specs.Seen.{isSet}
 use Rattle.lowhigh.specs.Low.{lowG}
 use Rattle.lowhigh.specs.High.{highG, highMarksByte}
+use Rattle.slowmotion.specs.Status.{slowMotion}
 use Rattle.anymotion.specs.Status.{anyMotion}
 use Rattle.anymotion.specs.Marks.{marksByte}
 use Rattle.rules.specs.Bursts.{isBurst}
@@ -37,7 +38,9 @@ elsewhere es = record {
       status 0x09 0 (isSet lowG es) ∷
       status 0x09 1 (isSet highG es) ∷
       -- "any-motion (0x09 bit 2)"
-      status 0x09 2 (isSet anyMotion es) ∷ [];
+      status 0x09 2 (isSet anyMotion es) ∷
+      -- Q-6: "Status and maps are bit 3 of 0x09, 0x19 and 0x1B"
+      status 0x09 3 (isSet slowMotion es) ∷ [];
   marks =
       -- "0x0B bits 2:0 (z, y, x) mark the first over axis .., and bit 3 is 1 for a negative difference"
       0x0B means marksByte es ∷

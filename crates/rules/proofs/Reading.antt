@@ -22,7 +22,7 @@ use Rattle.fifo.proofs.Store.{count-few}
 use Rattle.interrupts.specs.Statuses.{reached, statusesOf}
 use Rattle.interrupts.specs.Maps.{allStatuses, statusByte}
 use Rattle.interrupts.specs.declared.Statuses.{Statuses}
-use Rattle.detectors.specs.Detectors.{lowStatus, highStatus, highMarks, motionStatus, motionMarks}
+use Rattle.detectors.specs.Detectors.{lowStatus, highStatus, highMarks, motionStatus, motionMarks, slowStatus}
 use Rattle.device.specs.Device.{depth, reg}
 use Rattle.device.specs.Show.{insideOf, statusesIn, shownByte}
 use Rattle.device.specs.Read.{byteFrom, singleByte}
@@ -180,3 +180,8 @@ module _ (es : List Event) where
   pub motion-seen : bitSeen es 0x09 2 ≡ motionStatus (after es .detectors)
   unfolding statusesOf
   motion-seen = status-seen 0x09 refl 2
+
+  -- Q-6: "Status and maps are bit 3 of 0x09, 0x19 and 0x1B"
+  pub slow-seen : bitSeen es 0x09 3 ≡ slowStatus (after es .detectors)
+  unfolding statusesOf
+  slow-seen = status-seen 0x09 refl 3

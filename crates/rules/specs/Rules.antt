@@ -117,13 +117,14 @@ pub record Mapped : Type 0 where
   pub int2 : Place
 
 -- "Maps: 0x19 bit 2 for INT1, 0x1B bit 2 for INT2; 0x1A bits 0, 1, 2 are data, watermark, full for INT1, and 7, 6, 5 for INT2"; Q-5: "low and
--- high are bits 0 and 1 of 0x09, 0x19 and 0x1B"
+-- high are bits 0 and 1 of 0x09, 0x19 and 0x1B"; Q-6: "Status and maps are bit 3 of 0x09, 0x19 and 0x1B"
 abbrev pub maps : List Mapped
 maps =
     record { shown = place 0x09 0; int1 = place 0x19 0; int2 = place 0x1B 0 } ∷
     record { shown = place 0x09 1; int1 = place 0x19 1; int2 = place 0x1B 1 } ∷
     -- "any-motion (0x09 bit 2)"
     record { shown = place 0x09 2; int1 = place 0x19 2; int2 = place 0x1B 2 } ∷
+    record { shown = place 0x09 3; int1 = place 0x19 3; int2 = place 0x1B 3 } ∷
     -- "data (0x0A bit 7)"
     record { shown = place 0x0A 7; int1 = place 0x1A 0; int2 = place 0x1A 7 } ∷
     -- "watermark (0x0A bit 6)"

@@ -1,0 +1,5 @@
+pub mod Waits
+pub mod Steps
+pub mod Detector
+pub mod Words
+pub mod Held
