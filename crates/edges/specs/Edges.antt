@@ -1,5 +1,5 @@
 -- 01, "Both sides of each edge": the rows P1 to P10, and those of the requests, as one table.
-use Prim.Native.Nat.{ℕ, _+_, _-_}
+use Prim.Native.Nat.{ℕ, _+_, _-_, _*_}
 use mathlib.Core.List.{List, [], _∷_, _++_}
 use lib.IntN.{ℤ, pos, negsuc, negℤ}
 use Rattle.laws.specs.Table.{upFrom}
@@ -169,6 +169,148 @@ keptBy a byte number =
 abbrev allThree : ℕ → List Step
 allThree code = motionWith 0 code ++ bothWith 0x00 0x00 code ++ sampled (pos 1) 0x00 ++ clocked 2000 0x00 ++ sampled (pos 6) 0x07
 
+-- ---- slow motion and no-motion
+-- with a byte in 0x27, axes and bit 3 in 0x18, a threshold in 0x29 and a code in 0x21. The last write restarts: behind it no clock has passed
+abbrev slowWith : ℕ → ℕ → ℕ → ℕ → List Step
+slowWith byte chosen threshold code = written 0x27 byte ++ written 0x18 chosen ++ written 0x29 threshold ++ written 0x21 code
+
+-- of x alone above 4: slow motion with a byte in 0x27, and no-motion with a code of 0x27 bits 7:2; and a code in 0x21
+abbrev slow : ℕ → ℕ → List Step
+slow byte code = slowWith byte 0x01 0x01 code
+
+abbrev still : ℕ → ℕ → List Step
+still wait code = slowWith (4 * wait) 0x09 0x01 code
+
+-- a wait that begins here: one microsecond less and then at it, with calm points; and one of a second
+abbrev waited : ℤ → ℕ → List Step
+waited v time = clocked (time - 1) 0x00 ++ sampled v 0x00 ++ clocked 1 0x00 ++ sampled v 0x08
+
+abbrev second : ℤ → List Step
+second v = waited v 1000000
+
+-- both sides of the wait of a code, from the write and from over points: as above; at it; one more; and one less and at it in several
+abbrev waiting : ℕ → ℕ → List Step
+waiting wait time =
+    still wait 0x00 ++ sampled (pos 0) 0x00 ++ waited (pos 0) time
+    ++ sampled (pos 5) 0x00 ++ waited (pos 5) time
+    ++ sampled (pos 0) 0x00 ++ clocked time 0x00 ++ sampled (pos 0) 0x08
+    ++ sampled (pos 5) 0x00 ++ clocked (time + 1) 0x00 ++ sampled (pos 5) 0x08
+    ++ sampled (pos 0) 0x00 ++ clocked 1 0x00 ++ clocked (time - 3) 0x00 ++ sampled (pos 0) 0x00 ++ clocked 1 0x00 ++ sampled (pos 0) 0x00
+    ++ clocked 1 0x00 ++ sampled (pos 0) 0x08
+
+-- .. from the write alone
+abbrev waitOf : ℕ → ℕ → List Step
+waitOf wait seconds = still wait 0x00 ++ sampled (pos 0) 0x00 ++ waited (pos 0) (seconds * 1000000)
+
+-- slow motion with a byte in 0x27: one over point fewer than N and a calm one, N over points, one calm point fewer and an over one, N calm ones
+abbrev byOne : ℕ → List Step
+byOne byte = slow byte 0x00 ++ sampled (pos 0) 0x00 ++ sampled (pos 0) 0x00 ++ sampled (pos 5) 0x08 ++ sampled (pos 0) 0x08 ++ sampled (pos 0) 0x00
+
+abbrev byTwo : ℕ → List Step
+byTwo byte =
+    slow byte 0x00 ++ sampled (pos 0) 0x00 ++ sampled (pos 5) 0x00 ++ sampled (pos 5) 0x00
+    ++ sampled (pos 0) 0x00 ++ sampled (pos 5) 0x08
+    ++ sampled (pos 5) 0x08 ++ sampled (pos 0) 0x08
+    ++ sampled (pos 0) 0x08 ++ sampled (pos 0) 0x00
+
+abbrev byThree : ℕ → List Step
+byThree byte =
+    slow byte 0x00 ++ sampled (pos 0) 0x00 ++ sampled (pos 5) 0x00 ++ sampled (pos 0) 0x00 ++ sampled (pos 0) 0x00
+    ++ sampled (pos 5) 0x00 ++ sampled (pos 0) 0x00 ++ sampled (pos 5) 0x08
+    ++ sampled (pos 5) 0x08 ++ sampled (pos 5) 0x08 ++ sampled (pos 0) 0x08
+    ++ sampled (pos 0) 0x08 ++ sampled (pos 0) 0x08 ++ sampled (pos 0) 0x00
+
+abbrev byFour : ℕ → List Step
+byFour byte =
+    slow byte 0x00 ++ sampled (pos 0) 0x00 ++ sampled (pos 5) 0x00 ++ sampled (pos 0) 0x00 ++ sampled (pos 5) 0x00 ++ sampled (pos 5) 0x00
+    ++ sampled (pos 0) 0x00 ++ sampled (pos 5) 0x00 ++ sampled (pos 0) 0x00 ++ sampled (pos 5) 0x08
+    ++ sampled (pos 5) 0x08 ++ sampled (pos 5) 0x08 ++ sampled (pos 5) 0x08 ++ sampled (pos 0) 0x08
+    ++ sampled (pos 0) 0x08 ++ sampled (pos 0) 0x08 ++ sampled (pos 0) 0x08 ++ sampled (pos 0) 0x00
+
+-- a second, and an event behind it: where N is 1 and a wait a second, 0x09 tells slow motion's over points and no-motion's calm ones
+abbrev later : Event → ℕ → List Step
+later e byte = clock 1000000 ⇒ answer 0 ∷ shows e byte
+
+-- both sides of a slope, up and down, on an axis and on each, from the sample 0 and back: what 0x09 reads at it, and at one count more
+abbrev slopes : (ℤ → Event) → ℕ → ℕ → ℕ → List Step
+slopes axis size within beyond =
+    later (axis (pos size)) within ++ later (axis (pos 0)) within ++ later (axis (pos (size + 1))) beyond ++ later (axis (pos (size + 1))) within
+    ++ later (axis (pos 0)) beyond ++ later (axis (pos 0)) within
+
+abbrev slopesOfEach : ℕ → ℕ → ℕ → List Step
+slopesOfEach size within beyond = slopes x size within beyond ++ slopes y size within beyond ++ slopes z size within beyond
+
+-- .. of slow motion, and of no-motion, on some axes above a threshold
+abbrev slowSlopes : ℕ → ℕ → ℕ → List Step
+slowSlopes axes threshold size = slowWith 0x00 axes threshold 0x00 ++ sampled (pos 0) 0x00 ++ slopesOfEach size 0x00 0x08
+
+abbrev stillSlopes : ℕ → ℕ → ℕ → List Step
+stillSlopes axes threshold size = slowWith 0x00 (axes + 8) threshold 0x00 ++ sampled (pos 0) 0x00 ++ slopesOfEach size 0x08 0x00
+
+-- both sides of a hold in microseconds. Slow motion: neither a calm point nor an over one moves its end, and the next one is whole
+abbrev slowHeld : ℕ → ℕ → List Step
+slowHeld code time =
+    slow 0x00 code ++ sampled (pos 0) 0x00 ++ sampled (pos 5) 0x08 ++ sampled (pos 5) 0x08 ++ clocked (time - 1) 0x08 ++ sampled (pos 0) 0x08
+    ++ clocked 1 0x00 ++ sampled (pos 0) 0x00 ++ sampled (pos 5) 0x08 ++ clocked (time - 1) 0x08 ++ clocked 1 0x00
+    ++ sampled (pos 0) 0x08 ++ clocked (time + 1) 0x00
+
+-- .. no-motion, for a second: behind it the wait is a whole one, also where the end lies inside a clock, with the rest one short of a second and at it
+abbrev stillHeld : ℕ → ℕ → List Step
+stillHeld code time =
+    still 0 code ++ sampled (pos 0) 0x00 ++ second (pos 0) ++ sampled (pos 5) 0x08 ++ clocked (time - 1) 0x08 ++ sampled (pos 5) 0x08
+    ++ clocked 1 0x00 ++ second (pos 5)
+    ++ clocked (time + 999999) 0x00 ++ sampled (pos 5) 0x00 ++ clocked 1 0x00 ++ sampled (pos 5) 0x08
+    ++ clocked (time + 1000000) 0x00 ++ sampled (pos 5) 0x08 ++ clocked (time - 1) 0x08 ++ clocked 1000000 0x00 ++ sampled (pos 5) 0x00
+    ++ clocked 1 0x00 ++ sampled (pos 5) 0x08
+
+-- with no-motion, and with slow motion at N 2, on x and a code in 0x21: a write that restarts, in a wait or run and while it is set
+abbrev stillRestartedBy : ℕ → ℕ → ℕ → List Step
+stillRestartedBy code a byte =
+    still 0 code ++ sampled (pos 0) 0x00 ++ clocked 999999 0x00 ++ written a byte ++ sampled (pos 0) 0x00 ++ second (pos 0)
+    ++ shows (write a byte) 0x00 ++ sampled (pos 0) 0x00 ++ second (pos 0)
+
+abbrev slowRestartedBy : ℕ → ℕ → ℕ → List Step
+slowRestartedBy code a byte =
+    slow 0x04 code ++ sampled (pos 0) 0x00 ++ sampled (pos 5) 0x00 ++ written a byte ++ sampled (pos 0) 0x00 ++ sampled (pos 5) 0x08
+    ++ shows (write a byte) 0x00 ++ sampled (pos 0) 0x00 ++ sampled (pos 5) 0x08
+
+-- .. and one that does not, answered with a number
+abbrev stillKeptBy : ℕ → ℕ → ℕ → List Step
+stillKeptBy a byte number =
+    still 0 0x00 ++ sampled (pos 0) 0x00 ++ clocked 999999 0x00 ++ (write a byte ⇒ answer number ∷ clocked 1 0x00) ++ sampled (pos 0) 0x08
+    ++ (write a byte ⇒ answer number ∷ clocked 0 0x08)
+
+abbrev slowKeptBy : ℕ → ℕ → ℕ → List Step
+slowKeptBy a byte number =
+    slow 0x04 0x00 ++ sampled (pos 0) 0x00 ++ sampled (pos 5) 0x00 ++ (write a byte ⇒ answer number ∷ sampled (pos 0) 0x08)
+    ++ (write a byte ⇒ answer number ∷ clocked 0 0x08)
+
+abbrev eachKeptBy : ℕ → ℕ → ℕ → List Step
+eachKeptBy a byte number = stillKeptBy a byte number ++ slowKeptBy a byte number
+
+-- any-motion of x with N 2 in place of them, where 0x18 bit 3 is 1
+abbrev motionKeptBy : ℕ → ℕ → ℕ → List Step
+motionKeptBy a byte number =
+    written 0x18 0x08 ++ motionWith 1 0x00 ++ sampled (pos 0) 0x00 ++ sampled (pos 5) 0x00 ++ (write a byte ⇒ answer number ∷ sampled (pos 0) 0x04)
+    ++ (write a byte ⇒ answer number ∷ clocked 0 0x04)
+
+-- any-motion of x and no-motion of y, both above 4, N 1 and a second, with a code in 0x21; and a sample of both
+abbrev movingWith : ℕ → List Step
+movingWith code = written 0x18 0x0A ++ written 0x29 0x01 ++ motionWith 0 code
+
+abbrev xy : ℕ → ℕ → Event
+xy v w = sample (pos v) (pos w) (pos 0) 0
+
+-- slow motion, low-g, high-g and any-motion on x set at one sample, with a code in 0x21
+abbrev allFour : ℕ → List Step
+allFour code =
+    written 0x18 0x01 ++ written 0x29 0x01 ++ motionWith 0 code ++ bothWith 0x00 0x00 code
+    ++ sampled (pos 1) 0x00 ++ clocked 2000 0x00 ++ sampled (pos 6) 0x0F
+
+-- what two registers hold
+abbrev held : ℕ → ℕ → List Step
+held chosen byte = read 0x18 1 ⇒ bytes (chosen ∷ []) ∷ read 0x27 1 ⇒ bytes (byte ∷ []) ∷ []
+
 -- each row starts at a fresh device
 abbrev pub rows : List (List Step)
 rows =
@@ -199,10 +341,10 @@ rows =
     (write 0x16 0x01 ⇒ answer 0 ∷ write 0x28 0x01 ⇒ answer 0 ∷ write 0x27 0x00 ⇒ answer 0 ∷ x (pos 0) ⇒ answer 0 ∷ x (negsuc 4) ⇒ answer 0 ∷ read 0x0B 1 ⇒ bytes (0x09 ∷ []) ∷ []) ∷
     -- P10 "0x21=01 gives 3, 07 gives 0", with Q-4: "P10's first write gives 0"
     (write 0x21 0x01 ⇒ answer 0 ∷ write 0x21 0x07 ⇒ answer 0 ∷ []) ∷
-    -- Q-1 "11 a detector bit in 0x16 to 0x18"; Q-5 "11 no longer for 0x17"
+    -- Q-1 "11 a detector bit in 0x16 to 0x18"; Q-5 "11 no longer for 0x17", Q-6 "11 no longer for 0x18"
     eachBit at 0x16 give (11 ∷ 11 ∷ 11 ∷ 11 ∷ 0 ∷ 0 ∷ 0 ∷ 0 ∷ []) leave 0x01 ∷
     eachBit at 0x17 give allDone 8 leave 0x01 ∷
-    eachBit at 0x18 give (0 ∷ 0 ∷ 0 ∷ 0 ∷ 0 ∷ 11 ∷ 11 ∷ 11 ∷ []) leave 0x08 ∷
+    eachBit at 0x18 give allDone 8 leave 0x01 ∷
     -- Q-1 "12 a power mode in 0x11", also two modes or three at once
     eachBit at 0x11 give (12 ∷ 12 ∷ 12 ∷ 0 ∷ 0 ∷ 0 ∷ 0 ∷ 0 ∷ []) leave 0x00 ∷
     (0x1E ∷ 0x60 ∷ 0xA0 ∷ 0xC0 ∷ 0xE0 ∷ 0xFE ∷ []) at 0x11 give (0 ∷ 12 ∷ 12 ∷ 12 ∷ 12 ∷ 12 ∷ []) leave 0x1E ∷
@@ -442,4 +584,196 @@ rows =
     (allThree 0b0111 ++ shows (write 0x17 0x0F) 0x04) ∷
     (allThree 0b0111 ++ shows (write 0x0F 0x03) 0x00) ∷
     (allThree 0b0111 ++ shows (write 0x21 0b0111) 0x00) ∷
-    []
+    -- Q-6 "2 for the write to 0x18 or 0x27 that would bring no-motion and such a code together": codes 22 to 31 are the bytes 58 to 7F. With 0x18 bit 3
+    -- at 1 and no axis, every byte of 0x27, and with each axis those at both ends; with it at 0 none is refused
+    (written 0x18 0x08 ++ (upFrom (λ byte. byte) 0x00 256 at 0x27 give allDone 88 ++ upFrom (λ k. 2) 0 40 ++ allDone 128 leave 0xFF)) ∷
+    (written 0x18 0x0F ++ ((0x54 ∷ 0x57 ∷ 0x58 ∷ 0x5B ∷ 0x7C ∷ 0x7F ∷ []) at 0x27 give (0 ∷ 0 ∷ 2 ∷ 2 ∷ 2 ∷ 2 ∷ []) leave 0x57)
+    ++ ((0x80 ∷ 0x7F ∷ 0x83 ∷ 0x58 ∷ []) at 0x27 give (0 ∷ 2 ∷ 0 ∷ 2 ∷ []) leave 0x83)) ∷
+    (written 0x18 0x07 ++ (upFrom (λ byte. byte) 0x50 52 at 0x27 give allDone 52 leave 0x83)) ∷
+    -- .. and with codes 21, 22, 31 and 32 in 0x27, every byte of 0x18 below 20, whose bits 7:4 are ignored
+    (written 0x27 0x57 ++ (upFrom (λ byte. byte) 0x00 32 at 0x18 give allDone 32 leave 0x0F)) ∷
+    (written 0x27 0x58 ++ (upFrom (λ byte. byte) 0x00 32 at 0x18 give allDone 8 ++ upFrom (λ k. 2) 0 8 ++ allDone 8
+    ++ upFrom (λ k. 2) 0 8 leave 0x07)) ∷
+    (written 0x27 0x7F ++ ((0xF7 ∷ 0xF8 ∷ 0xFF ∷ 0x08 ∷ 0x09 ∷ 0x0F ∷ []) at 0x18 give (0 ∷ 2 ∷ 2 ∷ 2 ∷ 2 ∷ 2 ∷ []) leave 0x07)) ∷
+    (written 0x27 0x80 ++ (upFrom (λ byte. byte) 0x00 32 at 0x18 give allDone 32 leave 0x0F)) ∷
+    -- .. either write may be taken back first; what was refused is not kept, and a soft reset takes both
+    (written 0x27 0x58 ++ (write 0x18 0x08 ⇒ answer 2 ∷ held 0x00 0x58) ++ written 0x27 0x54 ++ written 0x18 0x08 ++ held 0x08 0x54) ∷
+    (written 0x18 0x08 ++ (write 0x27 0x58 ⇒ answer 2 ∷ held 0x08 0x00) ++ written 0x18 0x00 ++ written 0x27 0x58
+    ++ (write 0x18 0x08 ⇒ answer 2 ∷ held 0x00 0x58)) ∷
+    (written 0x27 0x7C ++ written 0x14 0xB6 ++ written 0x18 0x08 ++ (write 0x27 0x7C ⇒ answer 2 ∷ held 0x08 0x00)
+    ++ written 0x14 0xB6 ++ written 0x27 0x7C ++ held 0x00 0x7C) ∷
+    -- Q-6 "by 0x27 bits 7:2: codes 0 to 15 code plus 1 s; 16 to 21 are 40 s plus 8 s a step; 32 to 63 are 88 s plus 8 s a step": each end
+    waiting 0 1000000 ∷ waiting 15 16000000 ∷ waiting 16 40000000 ∷ waiting 21 80000000 ∷ waiting 32 88000000 ∷ waiting 63 336000000 ∷
+    -- .. bits 1:0 are any-motion's
+    (slowWith 0x03 0x09 0x01 0x00 ++ sampled (pos 0) 0x00 ++ second (pos 0)) ∷
+    (slowWith 0x57 0x09 0x01 0x00 ++ sampled (pos 0) 0x00 ++ waited (pos 0) 80000000) ∷
+    (slowWith 0xFF 0x09 0x01 0x00 ++ sampled (pos 0) 0x00 ++ waited (pos 0) 336000000) ∷
+    -- Q-6 "since the last over point, restart or expiry": from the write itself, before any sample: two equal samples right after it and the time
+    (still 0 0x00 ++ clocked 1000000 0x00 ++ sampled (pos 7) 0x00 ++ sampled (pos 7) 0x08) ∷
+    (still 0 0x00 ++ clocked 999999 0x00 ++ sampled (pos 7) 0x00 ++ sampled (pos 7) 0x00 ++ clocked 1 0x00 ++ sampled (pos 7) 0x08) ∷
+    -- .. no clock, no firing; and however much comes, as 2 to the 33 microseconds, it is the time and more
+    (still 0 0x00 ++ sampled (pos 0) 0x00 ++ sampled (pos 0) 0x00 ++ clocked 0 0x00 ++ sampled (pos 0) 0x00) ∷
+    (still 63 0x00 ++ sampled (pos 0) 0x00 ++ clocked 4294967295 0x00 ++ clocked 4294967295 0x00 ++ clocked 2 0x00 ++ sampled (pos 0) 0x08) ∷
+    -- .. "at a calm point": the time has passed, but the next point is over; the wait begins there, as at one in its midst, non-latched, latched and held
+    (still 0 0x00 ++ sampled (pos 0) 0x00 ++ clocked 1000000 0x00 ++ sampled (pos 5) 0x00 ++ sampled (pos 5) 0x00 ++ second (pos 5)) ∷
+    (still 0 0x00 ++ sampled (pos 0) 0x00 ++ clocked 500000 0x00 ++ sampled (pos 5) 0x00 ++ second (pos 5)) ∷
+    (still 0 0b0111 ++ sampled (pos 0) 0x00 ++ clocked 999999 0x00 ++ sampled (pos 5) 0x00 ++ second (pos 5)) ∷
+    (still 0 0b0110 ++ sampled (pos 0) 0x00 ++ clocked 999999 0x00 ++ sampled (pos 5) 0x00 ++ second (pos 5)) ∷
+    -- Q-6 "clears at an over point": at one, with 0x27 bits 3:2 and 1:0 at 11, where the code is 3 and the time 4 s; no calm point and no time clears it
+    (slowWith 0x0F 0x09 0x01 0x00 ++ sampled (pos 0) 0x00 ++ waited (pos 0) 4000000 ++ sampled (pos 0) 0x08 ++ sampled (pos 0) 0x08
+    ++ sampled (pos 0) 0x08 ++ sampled (pos 0) 0x08 ++ clocked 4294967295 0x08 ++ sampled (pos 0) 0x08 ++ sampled (pos 5) 0x00
+    ++ sampled (pos 0) 0x00 ++ waited (pos 0) 4000000 ++ clocked 4000000 0x08 ++ sampled (pos 5) 0x00 ++ sampled (pos 5) 0x00) ∷
+    -- Q-6 "Slow motion counts points as any-motion does, with N from 0x27 bits 3:2 plus 1": 1 to 4, whatever the other bits, and codes 22 to 31 too
+    byOne 0x00 ∷ byOne 0x03 ∷ byOne 0x60 ∷ byOne 0xF3 ∷ byTwo 0x04 ∷ byTwo 0x07 ∷ byTwo 0x64 ∷ byTwo 0xF4 ∷
+    byThree 0x08 ∷ byThree 0x0B ∷ byThree 0x58 ∷ byThree 0xF8 ∷ byFour 0x0C ∷ byFour 0x0F ∷ byFour 0x5C ∷ byFour 0x7F ∷ byFour 0xFC ∷
+    -- .. no clock counts, and bit 3 at 0 is no no-motion
+    (slow 0x00 0x00 ++ sampled (pos 0) 0x00 ++ clocked 4294967295 0x00 ++ sampled (pos 0) 0x00 ++ sampled (pos 5) 0x08 ++ clocked 4294967295 0x08
+    ++ sampled (pos 0) 0x08 ++ sampled (pos 0) 0x00) ∷
+    (slow 0x00 0b0111 ++ sampled (pos 0) 0x00 ++ clocked 4294967295 0x00 ++ sampled (pos 0) 0x00 ++ sampled (pos 5) 0x08) ∷
+    (slow 0x0C 0x00 ++ sampled (pos 0) 0x00 ++ clocked 4294967295 0x00 ++ sampled (pos 0) 0x00 ++ sampled (pos 5) 0x00) ∷
+    -- Q-6 "0x29 as threshold in steps of 4 counts": 80 as at power-up, 0, 4 and 1020; "axes in 0x18 bits 2:0"
+    (written 0x18 0x07 ++ sampled (pos 0) 0x00 ++ slopesOfEach 80 0x00 0x08) ∷
+    (written 0x18 0x0F ++ sampled (pos 0) 0x00 ++ slopesOfEach 80 0x08 0x00) ∷
+    slowSlopes 0x07 0x00 0 ∷ slowSlopes 0x07 0x01 4 ∷ slowSlopes 0x07 0xFF 1020 ∷
+    stillSlopes 0x07 0x00 0 ∷ stillSlopes 0x07 0x01 4 ∷ stillSlopes 0x07 0xFF 1020 ∷
+    -- .. each axis alone: one that is not enabled is never over
+    (slowWith 0x00 0x01 0x01 0x00 ++ sampled (pos 0) 0x00 ++ slopes x 4 0x00 0x08 ++ slopes y 4 0x00 0x00 ++ slopes z 4 0x00 0x00) ∷
+    (slowWith 0x00 0x02 0x01 0x00 ++ sampled (pos 0) 0x00 ++ slopes x 4 0x00 0x00 ++ slopes y 4 0x00 0x08 ++ slopes z 4 0x00 0x00) ∷
+    (slowWith 0x00 0x04 0x01 0x00 ++ sampled (pos 0) 0x00 ++ slopes x 4 0x00 0x00 ++ slopes y 4 0x00 0x00 ++ slopes z 4 0x00 0x08) ∷
+    (slowWith 0x00 0x09 0x01 0x00 ++ sampled (pos 0) 0x00 ++ slopes x 4 0x08 0x00 ++ slopes y 4 0x08 0x08 ++ slopes z 4 0x08 0x08) ∷
+    (slowWith 0x00 0x0A 0x01 0x00 ++ sampled (pos 0) 0x00 ++ slopes x 4 0x08 0x08 ++ slopes y 4 0x08 0x00 ++ slopes z 4 0x08 0x08) ∷
+    (slowWith 0x00 0x0C 0x01 0x00 ++ sampled (pos 0) 0x00 ++ slopes x 4 0x08 0x08 ++ slopes y 4 0x08 0x08 ++ slopes z 4 0x08 0x00) ∷
+    -- .. "some axis": two at the threshold and one above it; another axis at each of N points; and the largest slope
+    (slowWith 0x04 0x07 0x01 0x00 ++ sampled (pos 0) 0x00 ++ shows (sample (pos 4) (minus 4) (pos 4) 0) 0x00
+    ++ shows (sample (pos 8) (minus 9) (pos 0) 0) 0x00 ++ shows (sample (pos 4) (minus 5) (pos 5) 0) 0x08) ∷
+    (slowWith 0x08 0x07 0x01 0x00 ++ sampled (pos 0) 0x00 ++ shows (x (pos 5)) 0x00 ++ shows (sample (pos 5) (minus 5) (pos 0) 0) 0x00
+    ++ shows (sample (pos 5) (minus 5) (pos 5) 0) 0x08) ∷
+    (slowWith 0x00 0x01 0xFF 0x00 ++ sampled (minus 2048) 0x00 ++ sampled (pos 2047) 0x08 ++ sampled (pos 2047) 0x00 ++ sampled (minus 2048) 0x08
+    ++ sampled (minus 1028) 0x00 ++ sampled (minus 7) 0x08) ∷
+    (slowWith 0x00 0x09 0xFF 0x00 ++ sampled (minus 2048) 0x00 ++ second (minus 2048) ++ sampled (pos 2047) 0x00 ++ second (pos 2047)) ∷
+    -- .. in counts, at each range, and not by 0x28
+    (slowWith 0x00 0x07 0x01 0x00 ++ written 0x0F 0x05 ++ sampled (pos 0) 0x00 ++ slopesOfEach 4 0x00 0x08
+    ++ written 0x0F 0x08 ++ sampled (pos 0) 0x00 ++ slopes x 4 0x00 0x08 ++ written 0x0F 0x0C ++ sampled (pos 0) 0x00 ++ slopes z 4 0x00 0x08) ∷
+    (slowWith 0x00 0x0F 0x01 0x00 ++ written 0x0F 0x0C ++ sampled (pos 0) 0x00 ++ slopesOfEach 4 0x08 0x00) ∷
+    (written 0x28 0xFF ++ slowSlopes 0x07 0x01 4) ∷
+    (written 0x28 0x00 ++ stillSlopes 0x07 0x02 8) ∷
+    -- "The first sample gives no point, nor does any sample while no axis is enabled"
+    (slowWith 0x00 0x08 0x00 0x00 ++ sampled (pos 0) 0x00 ++ clocked 1000000 0x00 ++ sampled (pos 0) 0x00 ++ sampled (pos 9) 0x00
+    ++ clocked 4294967295 0x00 ++ sampled (pos 9) 0x00) ∷
+    (slowWith 0x00 0x00 0x00 0x00 ++ sampled (pos 0) 0x00 ++ sampled (pos 9) 0x00 ++ sampled (pos 0) 0x00 ++ clocked 1000000 0x00
+    ++ sampled (pos 0) 0x00) ∷
+    -- .. but it is the previous one of the next, which is a point where one is enabled by then; and a write that enables none clears
+    (slowWith 0x00 0x00 0x01 0x00 ++ sampled (pos 0) 0x00 ++ written 0x18 0x01 ++ sampled (pos 5) 0x08 ++ shows (write 0x18 0x00) 0x00
+    ++ sampled (pos 0) 0x00) ∷
+    (slowWith 0x00 0x08 0x01 0x00 ++ sampled (pos 0) 0x00 ++ written 0x18 0x09 ++ clocked 1000000 0x00 ++ sampled (pos 0) 0x08
+    ++ shows (write 0x18 0x08) 0x00 ++ clocked 1000000 0x00 ++ sampled (pos 0) 0x00) ∷
+    -- "bit 3 choosing no-motion": from one to the other, where each begins anew
+    (slow 0x00 0x00 ++ sampled (pos 0) 0x00 ++ sampled (pos 5) 0x08 ++ clocked 1000000 0x08 ++ shows (write 0x18 0x09) 0x00
+    ++ sampled (pos 5) 0x00 ++ second (pos 5) ++ shows (write 0x18 0x01) 0x00 ++ clocked 1000000 0x00 ++ sampled (pos 5) 0x00
+    ++ sampled (pos 0) 0x08) ∷
+    -- nothing is marked in 0x0B or 0x0C
+    (slow 0x00 0x00 ++ sampled (pos 5) 0x00 ++ sampled (pos 0) 0x08 ++ (read 0x0B 1 ⇒ bytes (0x00 ∷ []) ∷ marks 0x00)) ∷
+    (still 0 0x00 ++ sampled (minus 5) 0x00 ++ clocked 1000000 0x00 ++ sampled (minus 6) 0x08 ++ (read 0x0B 1 ⇒ bytes (0x00 ∷ []) ∷ marks 0x00)) ∷
+    -- Q-6 "it latches as any-motion does": "Non-latched .. clear it; latched, only the writes below or soft reset do"
+    (still 0 0b0000 ++ sampled (pos 0) 0x00 ++ second (pos 0) ++ clocked 4294967295 0x08 ++ sampled (pos 0) 0x08 ++ sampled (pos 5) 0x00) ∷
+    (still 0 0b1000 ++ sampled (pos 0) 0x00 ++ second (pos 0) ++ clocked 4294967295 0x08 ++ sampled (pos 0) 0x08 ++ sampled (pos 5) 0x00) ∷
+    (still 0 0b0111 ++ sampled (pos 0) 0x00 ++ second (pos 0) ++ sampled (pos 5) 0x08 ++ clocked 4294967295 0x08 ++ sampled (pos 5) 0x08
+    ++ shows (write 0x21 0b0111) 0x00 ++ second (pos 5)) ∷
+    (still 0 0b1111 ++ sampled (pos 0) 0x00 ++ second (pos 0) ++ sampled (pos 5) 0x08 ++ clocked 4294967295 0x08 ++ sampled (pos 0) 0x08
+    ++ shows (write 0x14 0xB6) 0x00) ∷
+    (slow 0x00 0b0000 ++ sampled (pos 0) 0x00 ++ sampled (pos 5) 0x08 ++ clocked 4294967295 0x08 ++ sampled (pos 5) 0x00) ∷
+    (slow 0x00 0b1000 ++ sampled (pos 0) 0x00 ++ sampled (pos 5) 0x08 ++ clocked 4294967295 0x08 ++ sampled (pos 5) 0x00) ∷
+    (slow 0x00 0b0111 ++ sampled (pos 0) 0x00 ++ sampled (pos 5) 0x08 ++ sampled (pos 5) 0x08 ++ clocked 4294967295 0x08 ++ sampled (pos 5) 0x08
+    ++ shows (write 0x21 0b0111) 0x00 ++ sampled (pos 5) 0x00 ++ sampled (pos 0) 0x08) ∷
+    (slow 0x00 0b1111 ++ sampled (pos 0) 0x00 ++ sampled (pos 5) 0x08 ++ sampled (pos 5) 0x08 ++ clocked 4294967295 0x08 ++ sampled (pos 5) 0x08
+    ++ shows (write 0x14 0xB6) 0x00) ∷
+    -- .. and with Q-4's holds
+    stillHeld 0b0001 250000 ∷ stillHeld 0b0010 500000 ∷ stillHeld 0b0011 1000000 ∷ stillHeld 0b0100 2000000 ∷ stillHeld 0b0101 4000000 ∷
+    stillHeld 0b0110 8000000 ∷ stillHeld 0b1001 250 ∷ stillHeld 0b1010 500 ∷ stillHeld 0b1011 1000 ∷ stillHeld 0b1100 12500 ∷
+    stillHeld 0b1101 25000 ∷ stillHeld 0b1110 50000 ∷
+    slowHeld 0b0001 250000 ∷ slowHeld 0b0010 500000 ∷ slowHeld 0b0011 1000000 ∷ slowHeld 0b0100 2000000 ∷ slowHeld 0b0101 4000000 ∷
+    slowHeld 0b0110 8000000 ∷ slowHeld 0b1001 250 ∷ slowHeld 0b1010 500 ∷ slowHeld 0b1011 1000 ∷ slowHeld 0b1100 12500 ∷
+    slowHeld 0b1101 25000 ∷ slowHeld 0b1110 50000 ∷
+    -- Q-4 "with marks and runs": with N 2 the over points of before the expiry do not count behind it
+    (slow 0x04 0b1001 ++ sampled (pos 0) 0x00 ++ sampled (pos 5) 0x00 ++ sampled (pos 0) 0x08 ++ sampled (pos 5) 0x08 ++ clocked 250 0x00
+    ++ sampled (pos 0) 0x00 ++ sampled (pos 5) 0x08) ∷
+    -- .. a write while it is held: the wait begins there, and the next hold is a whole one
+    (still 0 0b1001 ++ sampled (pos 0) 0x00 ++ second (pos 0) ++ clocked 200 0x08 ++ shows (write 0x29 0x01) 0x00 ++ clocked 50 0x00
+    ++ waited (pos 0) 999950 ++ clocked 249 0x08 ++ clocked 1 0x00) ∷
+    -- .. 88 s from an expiry inside a clock, and the longest clock, of which 336 s and more are left
+    (still 32 0b1001 ++ sampled (pos 0) 0x00 ++ waited (pos 0) 88000000 ++ clocked 88000249 0x00 ++ sampled (pos 0) 0x00 ++ clocked 1 0x00
+    ++ sampled (pos 0) 0x08 ++ clocked 88000250 0x00 ++ sampled (pos 0) 0x08) ∷
+    (still 63 0b0110 ++ sampled (pos 0) 0x00 ++ waited (pos 0) 336000000 ++ sampled (pos 5) 0x08 ++ clocked 4294967295 0x00 ++ sampled (pos 5) 0x08) ∷
+    -- Q-6 "an accepted write to 0x0F, 0x18, 0x21, 0x27 or 0x29 restarts it", also of the same byte; non-latched, latched and held
+    stillRestartedBy 0x00 0x0F 0x03 ∷ stillRestartedBy 0x00 0x18 0x09 ∷ stillRestartedBy 0x00 0x21 0x00 ∷ stillRestartedBy 0x00 0x27 0x00 ∷
+    stillRestartedBy 0x00 0x29 0x01 ∷ stillRestartedBy 0x07 0x0F 0x03 ∷ stillRestartedBy 0x07 0x18 0x09 ∷ stillRestartedBy 0x07 0x21 0x07 ∷
+    stillRestartedBy 0x07 0x27 0x00 ∷ stillRestartedBy 0x07 0x29 0x01 ∷ stillRestartedBy 0x0E 0x0F 0x03 ∷ stillRestartedBy 0x0E 0x18 0x09 ∷
+    slowRestartedBy 0x00 0x18 0x01 ∷ slowRestartedBy 0x00 0x21 0x00 ∷ slowRestartedBy 0x00 0x27 0x04 ∷ slowRestartedBy 0x00 0x29 0x01 ∷
+    slowRestartedBy 0x07 0x18 0x01 ∷ slowRestartedBy 0x07 0x21 0x07 ∷ slowRestartedBy 0x0E 0x27 0x04 ∷ slowRestartedBy 0x0E 0x29 0x01 ∷
+    -- .. of another byte: another range and axis, the ignored bits of 0x18 and those of 0x27 that another detector goes by, the command of 0x21
+    stillRestartedBy 0x00 0x0F 0x0C ∷ stillRestartedBy 0x00 0x18 0x0D ∷ stillRestartedBy 0x00 0x18 0xF9 ∷ stillRestartedBy 0x07 0x21 0x87 ∷
+    stillRestartedBy 0x00 0x21 0x07 ∷ stillRestartedBy 0x00 0x27 0x03 ∷ stillRestartedBy 0x00 0x29 0xFF ∷ slowRestartedBy 0x00 0x18 0x05 ∷
+    slowRestartedBy 0x00 0x21 0x80 ∷ slowRestartedBy 0x00 0x27 0x07 ∷ slowRestartedBy 0x00 0x27 0x64 ∷ slowRestartedBy 0x00 0x29 0x00 ∷
+    -- .. "0x0F also forgets the previous sample": the next one is no point, the one after it may fire; after another of these writes the next one may
+    (still 0 0x00 ++ sampled (pos 0) 0x00 ++ written 0x0F 0x03 ++ clocked 1000000 0x00 ++ sampled (pos 0) 0x00 ++ sampled (pos 0) 0x08) ∷
+    (still 0 0x00 ++ sampled (pos 0) 0x00 ++ written 0x18 0x09 ++ clocked 1000000 0x00 ++ sampled (pos 0) 0x08 ++ written 0x21 0x00
+    ++ clocked 1000000 0x00 ++ sampled (pos 0) 0x08 ++ written 0x27 0x00 ++ clocked 1000000 0x00 ++ sampled (pos 0) 0x08 ++ written 0x29 0x01
+    ++ clocked 1000000 0x00 ++ sampled (pos 0) 0x08) ∷
+    (slow 0x04 0x00 ++ sampled (pos 0) 0x00 ++ sampled (pos 5) 0x00 ++ written 0x0F 0x03 ++ sampled (pos 0) 0x00 ++ sampled (pos 5) 0x00
+    ++ sampled (pos 0) 0x08 ++ shows (write 0x0F 0x05) 0x00 ++ sampled (pos 5) 0x00 ++ sampled (pos 0) 0x00 ++ sampled (pos 5) 0x08) ∷
+    -- .. and a soft reset takes all
+    (still 0 0x00 ++ sampled (pos 0) 0x00 ++ clocked 999999 0x00 ++ written 0x14 0xB6 ++ held 0x00 0x00 ++ clocked 1 0x00 ++ sampled (pos 0) 0x00
+    ++ written 0x14 0xB6 ++ still 0 0x00 ++ clocked 1000000 0x00 ++ sampled (pos 0) 0x00 ++ sampled (pos 0) 0x08 ++ shows (write 0x14 0xB6) 0x00) ∷
+    -- .. no other write does, as those of any-motion, low-g and high-g
+    eachKeptBy 0x16 0x00 0 ∷ eachKeptBy 0x28 0x00 0 ∷ eachKeptBy 0x17 0x08 0 ∷ eachKeptBy 0x22 0x00 0 ∷ eachKeptBy 0x23 0x00 0 ∷
+    eachKeptBy 0x24 0x00 0 ∷ eachKeptBy 0x25 0x00 0 ∷ eachKeptBy 0x26 0x00 0 ∷ eachKeptBy 0x10 0x0F 0 ∷ eachKeptBy 0x13 0x40 0 ∷
+    eachKeptBy 0x19 0x08 0 ∷ eachKeptBy 0x1A 0x01 0 ∷ eachKeptBy 0x1B 0x08 0 ∷ eachKeptBy 0x20 0x0F 0 ∷ eachKeptBy 0x2A 0x00 0 ∷
+    eachKeptBy 0x30 0x01 0 ∷ eachKeptBy 0x3E 0x40 0 ∷ eachKeptBy 0x14 0xB5 0 ∷ eachKeptBy 0x09 0x00 0 ∷
+    -- .. nor one that is refused: it keeps the bytes, the wait, the run and the status
+    eachKeptBy 0x0F 0x04 2 ∷ eachKeptBy 0x3E 0xC0 2 ∷ eachKeptBy 0x16 0x80 11 ∷ eachKeptBy 0x58 0x00 1 ∷ eachKeptBy 0x67 0x00 1 ∷
+    (stillKeptBy 0x27 0x58 2 ++ held 0x09 0x00 ++ sampled (pos 0) 0x08) ∷
+    (stillKeptBy 0x27 0x7F 2 ++ held 0x09 0x00 ++ sampled (pos 5) 0x00 ++ second (pos 5)) ∷
+    (slow 0x64 0x00 ++ sampled (pos 0) 0x00 ++ sampled (pos 5) 0x00 ++ (write 0x18 0x09 ⇒ answer 2 ∷ sampled (pos 0) 0x08)
+    ++ (write 0x18 0x08 ⇒ answer 2 ∷ clocked 1000000 0x08) ++ held 0x01 0x64 ++ sampled (pos 0) 0x08 ++ sampled (pos 0) 0x00) ∷
+    -- .. nor a sample that is refused, or a cycle start: neither is a point
+    (still 0 0x00 ++ sampled (pos 0) 0x00 ++ clocked 999999 0x00 ++ (x (pos 2048) ⇒ answer 4 ∷ shows cycle 0x00) ++ clocked 1 0x00
+    ++ (x (pos 2048) ⇒ answer 4 ∷ shows cycle 0x00) ++ sampled (pos 0) 0x08 ++ (x (pos 2048) ⇒ answer 4 ∷ shows cycle 0x08)) ∷
+    (slow 0x04 0x00 ++ sampled (pos 0) 0x00 ++ sampled (pos 5) 0x00 ++ (x (pos 2048) ⇒ answer 4 ∷ shows cycle 0x00) ++ sampled (pos 0) 0x08
+    ++ sampled (pos 0) 0x08 ++ (x (minus 2049) ⇒ answer 4 ∷ shows cycle 0x08) ++ sampled (pos 0) 0x00) ∷
+    -- 0x18 and 0x29 do not restart any-motion, nor does a write to 0x18 or 0x27 that is refused
+    motionKeptBy 0x18 0x08 0 ∷ motionKeptBy 0x18 0x0F 0 ∷ motionKeptBy 0x18 0x00 0 ∷ motionKeptBy 0x29 0x00 0 ∷ motionKeptBy 0x27 0x59 2 ∷
+    (motionWith 0x59 0x00 ++ sampled (pos 0) 0x00 ++ sampled (pos 5) 0x00 ++ (write 0x18 0x08 ⇒ answer 2 ∷ sampled (pos 0) 0x04)
+    ++ (write 0x18 0x08 ⇒ answer 2 ∷ clocked 0 0x04)) ∷
+    -- the points are counted apart: 0x28 and 0x29 by themselves, each N, and each axis
+    (written 0x18 0x01 ++ written 0x29 0x10 ++ motionWith 0 0x00 ++ sampled (pos 0) 0x00 ++ sampled (pos 64) 0x04 ++ sampled (pos 64) 0x00
+    ++ sampled (minus 1) 0x0C ++ sampled (minus 6) 0x04 ++ sampled (minus 6) 0x00) ∷
+    (written 0x18 0x01 ++ written 0x29 0x01 ++ motionWith 1 0x00 ++ written 0x28 0x10 ++ sampled (pos 0) 0x00 ++ sampled (pos 5) 0x08
+    ++ sampled (pos 70) 0x08 ++ sampled (pos 0) 0x0C ++ sampled (pos 0) 0x04 ++ sampled (pos 0) 0x00) ∷
+    (movingWith 0x00 ++ sampled (pos 0) 0x00 ++ clocked 1000000 0x00 ++ shows (xy 5 0) 0x0C ++ shows (xy 5 5) 0x00 ++ clocked 999999 0x00
+    ++ shows (xy 0 5) 0x04 ++ clocked 1 0x04 ++ shows (xy 5 5) 0x0C ++ shows (xy 5 5) 0x08 ++ shows (xy 5 0) 0x00) ∷
+    -- each its own hold of 12.5 ms: any-motion's from 994000 us, no-motion's from 1000000 us; the end of the one is no expiry of the other
+    (movingWith 0b1100 ++ sampled (pos 0) 0x00 ++ clocked 994000 0x00 ++ shows (xy 5 0) 0x04 ++ clocked 6000 0x04 ++ shows (xy 5 0) 0x0C
+    ++ clocked 6499 0x0C ++ clocked 1 0x08 ++ clocked 5999 0x08 ++ clocked 1 0x00) ∷
+    (movingWith 0b1100 ++ sampled (pos 0) 0x00 ++ clocked 500000 0x00 ++ shows (xy 5 0) 0x04 ++ clocked 12499 0x04 ++ clocked 487500 0x00
+    ++ shows (xy 5 0) 0x00 ++ clocked 1 0x00 ++ shows (xy 5 0) 0x08) ∷
+    (still 0 0b1001 ++ lowWith 0x00 0x30 0x00 0b1001 ++ sampled (pos 0) 0x00 ++ clocked 2000 0x00 ++ sampled (pos 0) 0x01 ++ clocked 250 0x00
+    ++ clocked 997749 0x00 ++ sampled (pos 0) 0x00 ++ clocked 1 0x00 ++ sampled (pos 0) 0x08) ∷
+    -- Q-6 "Status .. bit 3 of 0x09": all four at once, and each goes alone: slow motion and any-motion by a calm point, low-g by 384, and high-g by 0
+    (allFour 0b0000 ++ marks 0x01 ++ (read 0x0B 1 ⇒ bytes (0x01 ∷ []) ∷ [])
+    ++ sampled (pos 6) 0x03 ++ sampled (pos 384) 0x0E ++ sampled (pos 0) 0x0C ++ sampled (pos 0) 0x00) ∷
+    -- a write that restarts one of them leaves the others; 0x27 restarts any-motion and this, 0x0F and 0x21 all four
+    (allFour 0b0111 ++ shows (write 0x18 0x01) 0x07 ++ marks 0x01 ++ (read 0x0B 1 ⇒ bytes (0x01 ∷ []) ∷ [])) ∷
+    (allFour 0b0111 ++ shows (write 0x29 0x01) 0x07) ∷
+    (allFour 0b0111 ++ shows (write 0x16 0x01) 0x0B) ∷
+    (allFour 0b0111 ++ shows (write 0x28 0x01) 0x0B) ∷
+    (allFour 0b0111 ++ shows (write 0x17 0x0F) 0x0C) ∷
+    (allFour 0b0111 ++ shows (write 0x22 0x00) 0x0C) ∷
+    (allFour 0b0111 ++ shows (write 0x26 0x00) 0x0C) ∷
+    (allFour 0b0111 ++ shows (write 0x27 0x00) 0x03) ∷
+    (allFour 0b0111 ++ shows (write 0x27 0x58) 0x03 ++ (write 0x18 0x09 ⇒ answer 2 ∷ clocked 0 0x03)) ∷
+    (allFour 0b0111 ++ shows (write 0x0F 0x03) 0x00) ∷
+    (allFour 0b0111 ++ shows (write 0x21 0b0111) 0x00) ∷
+    (allFour 0b0111 ++ shows (write 0x14 0xB6) 0x00) ∷
+    -- the wait of each code
+    (upFrom (λ code. waitOf code (code + 1)) 0 16 ++ upFrom (λ step. waitOf (16 + step) (40 + 8 * step)) 0 6
+    ++ upFrom (λ step. waitOf (32 + step) (88 + 8 * step)) 0 32)

@@ -10,6 +10,7 @@ pub mod SettledSlopes
 pub mod SettledMotion
 pub mod SettledSpell
 pub mod SettledGravity
+pub mod SettledSlow
 pub mod SettledDetectors
 pub mod SettledInterrupts
 pub mod SettledDevice

@@ -10,6 +10,9 @@ use Rattle.codes.proofs.hold_of as hold-of
 use Rattle.codes.proofs.mode_of as mode-of
 use Rattle.codes.proofs.is_reserved_mode as is-reserved-mode
 use Rattle.codes.proofs.axes_of as axes-of
+use Rattle.codes.proofs.wait_code as wait-code
+use Rattle.codes.proofs.wait_of as wait-of
+use Rattle.codes.proofs.is_reserved_wait as is-reserved-wait
 use Rattle.outcomes.proofs.Plain.{plain}
 
 range-of-settled : Settled range-of.ended (λ M. range-of.clauses) (λ M. range-of.spec)
@@ -35,3 +38,12 @@ is-reserved-mode-settled = plain (λ κs a s s′. refl)
 
 axes-of-settled : Settled axes-of.ended (λ M. axes-of.clauses) (λ M. axes-of.spec)
 axes-of-settled = plain (λ κs a s s′. refl)
+
+wait-code-settled : Settled wait-code.ended (λ M. wait-code.clauses) (λ M. wait-code.spec)
+wait-code-settled = plain (λ κs a s s′. refl)
+
+wait-of-settled : Settled wait-of.ended (λ M. wait-of.clauses) (λ M. wait-of.spec)
+wait-of-settled = plain (λ κs a s s′. refl)
+
+is-reserved-wait-settled : Settled is-reserved-wait.ended (λ M. is-reserved-wait.clauses) (λ M. is-reserved-wait.spec)
+is-reserved-wait-settled = plain (λ κs a s s′. refl)

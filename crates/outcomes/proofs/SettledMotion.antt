@@ -5,6 +5,7 @@ use Rattle.laws.specs.Outcome.{Settled}
 use Rattle.motion.proofs.Settings.points_needed as points-needed
 use Rattle.motion.proofs.Motion.quiet as quiet
 use Rattle.motion.proofs.Motion.alarm as alarm
+use Rattle.motion.proofs.Motion.with_alarm as with-alarm
 use Rattle.motion.proofs.Motion.restart as restart
 use Rattle.motion.proofs.Motion.sample as sample
 use Rattle.motion.proofs.Motion.clock as clock
@@ -18,6 +19,9 @@ quiet-settled = plain (λ κs a s s′. refl)
 
 alarm-settled : Settled alarm.ended (λ M. alarm.clauses) (λ M. alarm.spec)
 alarm-settled = plain (λ κs a s s′. refl)
+
+with-alarm-settled : Settled with-alarm.ended (λ M. with-alarm.clauses) (λ M. with-alarm.spec)
+with-alarm-settled = plain (λ κs a s s′. refl)
 
 restart-settled : Settled restart.ended (λ M. restart.clauses) (λ M. restart.spec)
 restart-settled = plain (λ κs a s s′. refl)

@@ -22,12 +22,12 @@ use Rattle.benchlog.specs.Writer.{written}
 abbrev pub AboveLast : ℕ → Type 0
 AboveLast a = 0x3F < a
 
--- 2, "write of a code the sheet reserves"
+-- 2, "write of a code the sheet reserves", and by Q-6 one "that would bring no-motion and such a code together"
 abbrev pub ReservedWrite : (ℕ → ℕ) → ℕ → ℕ → Type 0
 ReservedWrite held a b = isReservedWrite held a b ≡ true
 
--- 11, "a detector bit in 0x16 to 0x18", by Q-5 "no longer for 0x17"; 12, "a power mode in 0x11"; 13, "self-test, memory, calibration or offset in 0x32, 0x33, 0x36, 0x38 to
--- 0x3A"
+-- 11, "a detector bit in 0x16 to 0x18", by Q-5 "no longer for 0x17" and by Q-6 "no longer for 0x18"; 12, "a power mode in 0x11"; 13, "self-test,
+-- memory, calibration or offset in 0x32, 0x33, 0x36, 0x38 to 0x3A"
 abbrev pub DetectorWrite : ℕ → ℕ → Type 0
 DetectorWrite a b = isDetectorWrite a b ≡ true
 
