@@ -83,14 +83,23 @@ static struct peer fresh(uint8_t address, uint8_t byte)
     return t;
 }
 
-/* Whether two twins are the same in all but padding; neither part of struct type has any. */
+static bool same_motion(const struct peer_motion *a, const struct peer_motion *b)
+{
+    return a->status == b->status && a->marks == b->marks && a->negative == b->negative &&
+           a->over_run == b->over_run && a->calm_run == b->calm_run && a->wait == b->wait &&
+           a->left == b->left;
+}
+
+/* Whether two twins are the same in all but padding; neither FIFO, low-g nor high-g has any. */
 static bool same(const struct peer *a, const struct peer *b)
 {
     return memcmp(a->reg, b->reg, sizeof a->reg) == 0 &&
            memcmp(a->lock, b->lock, sizeof a->lock) == 0 &&
            memcmp(a->locked, b->locked, sizeof a->locked) == 0 && a->fresh_data == b->fresh_data &&
            memcmp(&a->fifo, &b->fifo, sizeof a->fifo) == 0 &&
-           memcmp(&a->motion, &b->motion, sizeof a->motion) == 0 &&
+           memcmp(a->previous, b->previous, sizeof a->previous) == 0 &&
+           a->has_previous == b->has_previous && same_motion(&a->motion, &b->motion) &&
+           same_motion(&a->slow, &b->slow) &&
            memcmp(&a->low, &b->low, sizeof a->low) == 0 &&
            memcmp(&a->high, &b->high, sizeof a->high) == 0;
 }
@@ -357,7 +366,7 @@ static const struct {
 } lacking[] = {
     {0x16, "7654", "3210", 11}, /* detectors */
     {0x17, "", "76543210", 11}, /* no more: low-g and high-g are there */
-    {0x18, "210", "76543", 11},
+    {0x18, "", "76543210", 11}, /* no more: slow motion and no-motion are there */
     {0x11, "765", "43210", 12}, /* power modes */
     {0x32, "10", "765432", 13}, /* self-test */
     {0x33, "310", "76542", 13}, /* memory */
@@ -383,7 +392,14 @@ static bool nibble_among(unsigned byte, const char *nibbles)
     return strchr(nibbles, "0123456789ABCDEF"[byte & 15]) != NULL;
 }
 
-static unsigned expected_answer(unsigned address, unsigned byte)
+/* Whether 0x18 chooses no-motion by bit 3, and 0x27 has a code from 22 to 31 in its bits 7:2. */
+static bool no_meaning(unsigned in_18, unsigned in_27)
+{
+    return in_18 & 8 && in_27 / 4 >= 22 && in_27 / 4 <= 31;
+}
+
+/* Where 0x18 and 0x27 hold these before the write. */
+static unsigned expected_answer(unsigned address, unsigned byte, unsigned in_18, unsigned in_27)
 {
     if (address > 0x3F)
         return 1;
@@ -391,6 +407,10 @@ static unsigned expected_answer(unsigned address, unsigned byte)
         return nibble_among(byte, "358C") ? 0 : 2;
     if (address == 0x3E)
         return byte < 0xC0 ? 0 : 2;
+    if (address == 0x18)
+        return no_meaning(byte, in_27) ? 2 : 0;
+    if (address == 0x27)
+        return no_meaning(in_18, byte) ? 2 : 0;
     for (int i = 0; i < LACKING; i++)
         if (lacking[i].address == address && byte & bits(lacking[i].refused))
             return lacking[i].number;
@@ -402,7 +422,7 @@ static bool row_holds(unsigned address, unsigned reset, unsigned mask)
     for (unsigned byte = 0; byte < 256; byte++) {
         struct peer t;
         uint8_t got;
-        unsigned wanted = expected_answer(address, byte);
+        unsigned wanted = expected_answer(address, byte, 0x00, 0x00);
         unsigned after = wanted ? reset : (reset & ~mask) | (byte & mask);
 
         peer_power_up(&t);
@@ -429,14 +449,16 @@ static void register_table(void)
 /* ---- what the twin lacks ---- */
 
 /* A twin in which any effect of a write shows: overrun, each status, a lock on x, and bytes other
-   than those of reset. What is below 2040 and not 0 is both low and high. */
-static struct peer busy(void)
+   than those of reset. What is below 2040 and not 0 is both low and high. The second sample sets
+   no-motion and the third any-motion and slow motion; the two bytes choose which, with N 1 or 1 s. */
+static struct peer busy_with(unsigned in_18, unsigned in_27)
 {
     struct peer t = fresh(0x16, 0x07);
 
     peer_write(&t, 0x11, 0x1E);
     peer_write(&t, 0x17, 0x7F);
-    peer_write(&t, 0x18, 0x08);
+    peer_write(&t, 0x18, (uint8_t)in_18);
+    peer_write(&t, 0x27, (uint8_t)in_27);
     peer_write(&t, 0x21, 0x0F);
     peer_write(&t, 0x22, 0x00);
     peer_write(&t, 0x23, 0xFF);
@@ -444,11 +466,17 @@ static struct peer busy(void)
     peer_write(&t, 0x26, 0x00);
     peer_write(&t, 0x30, 0x01);
     peer_write(&t, 0x32, 0x04);
-    peer_sample(&t, 0, 1, 0, 1);
-    peer_clock(&t, 2000);
+    peer_sample(&t, -1, 1, 0, 1);
+    peer_clock(&t, 1000000);
+    peer_sample(&t, -1, 1, 0, 1);
     peer_sample(&t, -2000, 2039, 5, 2);
     reads(&t, 0x02, 1);
     return t;
+}
+
+static struct peer busy(void)
+{
+    return busy_with(0x0F, 0x00);
 }
 
 static void write_gives(unsigned address, unsigned byte, unsigned wanted)
@@ -500,12 +528,13 @@ static void latch_codes(void)
     }
 }
 
-static void every_write(void)
+/* Every write to a twin whose 0x18 and 0x27 hold these. */
+static void every_write(unsigned in_18, unsigned in_27)
 {
-    struct peer before = busy(), t = before;
+    struct peer before = busy_with(in_18, in_27), t = before;
     int gone = 0, others = 0, changes = 0;
 
-    check(gives(&t, 0x09, "07E00909FF81"), "the busy twin has each status and overrun set");
+    check(gives(&t, 0x09, "0FE00909FF81"), "the busy twin has each status and overrun set");
     for (unsigned address = 0; address < 0x100; address++)
         for (unsigned byte = 0; byte < 0x100; byte++) {
             unsigned answer;
@@ -513,7 +542,7 @@ static void every_write(void)
             t = before;
             answer = peer_write(&t, (uint8_t)address, (uint8_t)byte);
             gone += answer == 3 || answer == 14;
-            others += answer != expected_answer(address, byte);
+            others += answer != expected_answer(address, byte, in_18, in_27);
             changes += answer != 0 && !same(&t, &before);
         }
     check(gone == 0, "%d writes are answered 3 or 14", gone);
@@ -526,7 +555,8 @@ static void refusals_by_register(void)
     bits_lacking();
     power_modes_at_once();
     latch_codes();
-    every_write();
+    every_write(0x0F, 0x00); /* no-motion of 1 s */
+    every_write(0x07, 0x60); /* slow motion, with a code that has no meaning for the other */
 }
 
 /* ---- further edges ---- */
@@ -995,6 +1025,7 @@ static void nothing_else(unsigned code, uint32_t time)
     uint8_t shown[63 + 192], wanted[63 + 192];
 
     peer_write(&t, 0x17, 0x70); /* any-motion alone */
+    peer_write(&t, 0x18, 0x00);
     peer_write(&t, 0x21, (uint8_t)code);
     peer_sample(&t, 2047, 2047, 5, 3);
     peer_sample(&t, -2048, 2047, 5, 3);
@@ -1144,7 +1175,7 @@ static void latch_times(void)
     another_code();
 }
 
-/* ---- low-g and high-g ---- */
+/* ---- stories ---- */
 
 /* Whether 0x09 and 0x0C have these bytes. */
 static bool shows(struct peer *t, unsigned status, unsigned marks)
@@ -1154,8 +1185,24 @@ static bool shows(struct peer *t, unsigned status, unsigned marks)
     return peer_read(t, 0x09, got, 4) == 0 && got[0] == status && got[3] == marks;
 }
 
+/* Whether 0x09 has this byte and 0x0A to 0x0C are 0. */
+static bool shows_alone(struct peer *t, unsigned status)
+{
+    uint8_t got[4];
+
+    return peer_read(t, 0x09, got, 4) == 0 && got[0] == status && !(got[1] | got[2] | got[3]);
+}
+
+static bool reads_as(struct peer *t, unsigned address, unsigned byte)
+{
+    uint8_t got;
+
+    return peer_read(t, (uint8_t)address, &got, 1) == 0 && got == byte;
+}
+
 /* One step of a story: AA=BB writes, and AA=BB!N is refused N; x,y,z is a sample; +N a clock of so
-   many microseconds; ?SS/MM asks whether 0x09 is SS and 0x0C is MM. */
+   many microseconds; AA?BB asks whether AA reads BB, ?SS/MM whether 0x09 is SS and 0x0C is MM, and
+   ?SS whether 0x09 is SS and no mark and no sign is there. */
 static bool step_holds(struct peer *t, const char *step)
 {
     unsigned first, second, refusal = 0;
@@ -1165,8 +1212,12 @@ static bool step_holds(struct peer *t, const char *step)
         return peer_write(t, (uint8_t)first, (uint8_t)second) == refusal;
     if (sscanf(step, "%d,%d,%d", &x, &y, &z) == 3)
         return peer_sample(t, x, y, z, 0) == 0;
+    if (sscanf(step, "%x?%x", &first, &second) == 2)
+        return reads_as(t, first, second);
     if (sscanf(step, "?%x/%x", &first, &second) == 2)
         return shows(t, first, second);
+    if (sscanf(step, "?%x", &first) == 1)
+        return shows_alone(t, first);
     return sscanf(step, "+%u", &first) == 1 && peer_clock(t, first) == 0;
 }
 
@@ -1190,6 +1241,8 @@ static void story(const char *opening, const char *rest)
         at += strspn(at, " ");
     }
 }
+
+/* ---- low-g and high-g ---- */
 
 /* Single mode, no hysteresis, 8 times 06 is 48 counts at 2 g, (00 + 1) times 2 ms. */
 #define LOW "24=00 23=06 22=00 17=08"
@@ -1490,33 +1543,50 @@ static void high_band(void)
 #define BOTH "24=00 23=FF 26=00 22=00 25=00 17=0F"
 #define SET_BOTH "0,-5,0 +2000 0,-5,0 ?03/0A"
 
-/* "Both latch as any-motion does": 0000 and 1000 are non-latched, 0111 and 1111 latched. */
-static void g_latches(void)
+/* What a code in 0x21 makes of a status that is set, and of the run behind it. */
+struct latch_story {
+    const char *code, *rest;
+};
+
+static void latch_stories(const char *opening, const char *setting, const struct latch_story *of,
+                          size_t count)
 {
-    story(BOTH " 21=00", SET_BOTH " 0,0,0 ?01/08 2047,2047,2047 ?00/08");
-    story(BOTH " 21=08", SET_BOTH " 0,0,0 ?01/08 2047,2047,2047 ?00/08");
-    story(BOTH " 21=80", SET_BOTH " 0,2040,0 ?02/0A +4294967295 ?02/0A 0,0,0 ?00/08");
-    story(BOTH " 21=07", SET_BOTH " 0,0,0 ?03/0A 2047,2047,2047 ?03/0A +4294967295 0,0,0 ?03/0A");
-    story(BOTH " 21=0F", SET_BOTH " 0,0,0 ?03/0A 2047,2047,2047 ?03/0A 1,0,0 +2000 1,0,0 ?03/0A");
-    story(BOTH " 21=0F", SET_BOTH " 0,0,0 21=0F ?00/08 1,0,0 ?00/08 +2000 1,0,0 ?03/01");
-    story(BOTH " 21=07", SET_BOTH " 21=00 ?00/08 1,0,0 +2000 1,0,0 ?03/01 0,0,0 ?01/00");
+    char with_code[128], rest[256];
+
+    for (size_t i = 0; i < count; i++) {
+        snprintf(with_code, sizeof with_code, "%s 21=%s", opening, of[i].code);
+        snprintf(rest, sizeof rest, "%s %s", setting, of[i].rest);
+        story(with_code, rest);
+    }
 }
 
-/* The times of Q-4: neither calm nor low or high samples move the end, which ends the run too. */
-static void g_holds(void)
-{
-    story(BOTH " 21=09", SET_BOTH " +249 ?03/0A +1 ?00/08");
-    story(BOTH " 21=09", SET_BOTH " +250 ?00/08");
-    story(BOTH " 21=09", SET_BOTH " +251 ?00/08 +4294967295 ?00/08");
-    story(BOTH " 21=09", SET_BOTH " +4294967295 ?00/08");
-    story(BOTH " 21=09", SET_BOTH " 0,0,0 2047,2047,2047 ?03/0A +249 0,0,0 2047,2047,2047 ?03/0A +1 ?00/08");
-    story(BOTH " 21=09", SET_BOTH " 0,-5,0 +249 0,-5,0 ?03/0A +1 ?00/08");
+static const struct latch_story g_latched[] = {
+    /* "Both latch as any-motion does": 0000 and 1000 are non-latched, 0111 and 1111 latched */
+    {"00", "0,0,0 ?01/08 2047,2047,2047 ?00/08"},
+    {"08", "0,0,0 ?01/08 2047,2047,2047 ?00/08"},
+    {"80", "0,2040,0 ?02/0A +4294967295 ?02/0A 0,0,0 ?00/08"},
+    {"07", "0,0,0 ?03/0A 2047,2047,2047 ?03/0A +4294967295 0,0,0 ?03/0A"},
+    {"0F", "0,0,0 ?03/0A 2047,2047,2047 ?03/0A 1,0,0 +2000 1,0,0 ?03/0A"},
+    {"0F", "0,0,0 21=0F ?00/08 1,0,0 ?00/08 +2000 1,0,0 ?03/01"},
+    {"07", "21=00 ?00/08 1,0,0 +2000 1,0,0 ?03/01 0,0,0 ?01/00"},
+    /* the times of Q-4: neither calm nor low or high samples move the end, which ends the run too */
+    {"09", "+249 ?03/0A +1 ?00/08"},
+    {"09", "+250 ?00/08"},
+    {"09", "+251 ?00/08 +4294967295 ?00/08"},
+    {"09", "+4294967295 ?00/08"},
+    {"09", "0,0,0 2047,2047,2047 ?03/0A +249 0,0,0 2047,2047,2047 ?03/0A +1 ?00/08"},
+    {"09", "0,-5,0 +249 0,-5,0 ?03/0A +1 ?00/08"},
     /* still falling at the end: the next sample is the first of a new run */
-    story(BOTH " 21=09", SET_BOTH " +250 0,-5,0 ?00/08 +1999 0,-5,0 ?00/08 +1 0,-5,0 ?03/0A +250 ?00/08");
-    story(BOTH " 21=09", SET_BOTH " +2250 0,-5,0 ?00/08 +1999 0,-5,0 ?00/08 +1 0,5,0 ?03/02");
-    story(BOTH " 21=09", SET_BOTH " +4294967295 0,-5,0 ?00/08 +1999 0,-5,0 ?00/08 +1 0,-5,0 ?03/0A");
-    story(BOTH " 21=01", SET_BOTH " +249999 0,-5,0 ?03/0A +1 ?00/08 0,-5,0 ?00/08 +2000 0,-5,0 ?03/0A");
-    story(BOTH " 21=06", SET_BOTH " 0,0,0 +7999999 0,-5,0 ?03/0A +1 0,-5,0 ?00/08 +1999 0,-5,0 ?00/08");
+    {"09", "+250 0,-5,0 ?00/08 +1999 0,-5,0 ?00/08 +1 0,-5,0 ?03/0A +250 ?00/08"},
+    {"09", "+2250 0,-5,0 ?00/08 +1999 0,-5,0 ?00/08 +1 0,5,0 ?03/02"},
+    {"09", "+4294967295 0,-5,0 ?00/08 +1999 0,-5,0 ?00/08 +1 0,-5,0 ?03/0A"},
+    {"01", "+249999 0,-5,0 ?03/0A +1 ?00/08 0,-5,0 ?00/08 +2000 0,-5,0 ?03/0A"},
+    {"06", "0,0,0 +7999999 0,-5,0 ?03/0A +1 0,-5,0 ?00/08 +1999 0,-5,0 ?00/08"},
+};
+
+static void g_latches(void)
+{
+    latch_stories(BOTH, SET_BOTH, g_latched, sizeof g_latched / sizeof *g_latched);
     /* a hold shorter than the run, and a clock before the setting that counts for no hold */
     story(BOTH " 21=0A 22=01", "1,0,0 +2000 1,0,0 ?02/01 +500 1,0,0 ?00/00 +1499 1,0,0 ?00/00 "
                                "+1 1,0,0 ?01/00 +499 1,0,0 ?01/00 +1 1,0,0 ?02/01");
@@ -1551,34 +1621,33 @@ static const char *const g_restarts[] = {
 /* What does not: writes to other registers, refused ones, and B5 to 0x14. */
 static const char *const g_others[] = {
     "0F=04!2", "0F=00!2", "10=0F", "11=00", "11=80!12", "12=00", "13=40",    "14=B5",
-    "16=00",   "16=17!11", "18=08", "18=01!11", "19=03", "1A=FF", "1B=03",   "1E=03",
+    "16=00",   "16=17!11", "18=08", "18=0F", "19=03", "1A=FF", "1B=03",   "1E=03",
     "20=00",   "27=03",   "28=00", "29=00", "2A=00",    "2F=00", "30=01",    "38=00",
     "38=01!13", "39=00",   "3A=00", "3B=FF", "3E=40",    "3E=C0!2", "3F=00",  "40=00!1",
     "57=0F!1", "00=00",   "09=00", "0C=00", "1F=00",    "33=00", "36=00",
 };
 
-static void g_writes(void)
+/* A story for each of these writes, which stands where the form has its %s. */
+static void each_write(const char *opening, const char *form, const char *const *writes, size_t count)
 {
     char rest[256];
 
-    for (size_t i = 0; i < sizeof g_restarts / sizeof *g_restarts; i++) {
-        snprintf(rest, sizeof rest, SET_BOTH " %s ?00/08 0,-5,0 ?00/08 +2000 ?00/08 0,-5,0 ?03/0A",
-                 g_restarts[i]);
-        story(BOTH, rest);
-        snprintf(rest, sizeof rest, "0,-5,0 +2000 %s 0,-5,0 ?00/00 +1999 0,-5,0 ?00/00 +1 0,-5,0 ?03/0A",
-                 g_restarts[i]);
-        story(BOTH, rest);
-        snprintf(rest, sizeof rest, "0,-5,0 +1999 %s +1 0,-5,0 ?00/00 +2000 0,-5,0 ?03/0A",
-                 g_restarts[i]);
-        story(BOTH, rest);
+    for (size_t i = 0; i < count; i++) {
+        snprintf(rest, sizeof rest, form, writes[i]);
+        story(opening, rest);
     }
-    for (size_t i = 0; i < sizeof g_others / sizeof *g_others; i++) {
-        snprintf(rest, sizeof rest, SET_BOTH " %s ?03/0A 0,0,0 ?01/08 0,2047,0 ?00/08",
-                 g_others[i]);
-        story(BOTH, rest);
-        snprintf(rest, sizeof rest, "0,-5,0 +1999 %s +1 0,-5,0 ?03/0A", g_others[i]);
-        story(BOTH, rest);
-    }
+}
+
+#define EACH_WRITE(opening, form, writes) \
+    each_write(opening, form, writes, sizeof writes / sizeof *writes)
+
+static void g_writes(void)
+{
+    EACH_WRITE(BOTH, SET_BOTH " %s ?00/08 0,-5,0 ?00/08 +2000 ?00/08 0,-5,0 ?03/0A", g_restarts);
+    EACH_WRITE(BOTH, "0,-5,0 +2000 %s 0,-5,0 ?00/00 +1999 0,-5,0 ?00/00 +1 0,-5,0 ?03/0A", g_restarts);
+    EACH_WRITE(BOTH, "0,-5,0 +1999 %s +1 0,-5,0 ?00/00 +2000 0,-5,0 ?03/0A", g_restarts);
+    EACH_WRITE(BOTH, SET_BOTH " %s ?03/0A 0,0,0 ?01/08 0,2047,0 ?00/08", g_others);
+    EACH_WRITE(BOTH, "0,-5,0 +1999 %s +1 0,-5,0 ?03/0A", g_others);
 }
 
 /* The restarts of a hold: nothing is left of its time, and the next one is whole. */
@@ -1619,12 +1688,12 @@ static void g_pins(void)
 
     check(pins_are(&t, PEER_LOW, PEER_LOW), "unmapped");
     for (unsigned map = 0; map < 256; map++) {
-        bool mapped = map & 0x07;
+        bool mapped = map & 0x0F;
 
         peer_write(&t, 0x19, (uint8_t)map);
         peer_write(&t, 0x1B, (uint8_t)~map);
-        check(pins_are(&t, mapped ? PEER_HIGH : PEER_LOW, (map & 7) == 7 ? PEER_LOW : PEER_HIGH),
-              "all three, 19=%02X", map);
+        check(pins_are(&t, mapped ? PEER_HIGH : PEER_LOW, (map & 15) == 15 ? PEER_LOW : PEER_HIGH),
+              "all four, 19=%02X", map);
     }
     t = fresh(0x17, 0x0F); /* with the reset bytes low below 384, high above 1536 */
     sample_x(&t, 1);
@@ -1977,7 +2046,6 @@ static void low_and_high_g(void)
     high_hysteresis();
     high_band();
     g_latches();
-    g_holds();
     g_own_times();
     g_writes();
     g_writes_in_a_hold();
@@ -1987,6 +2055,603 @@ static void low_and_high_g(void)
     every_low_threshold();
     every_high_threshold();
     g_at_random();
+}
+
+/* ---- slow motion and no-motion ---- */
+
+/* Slow motion on x, over above 4 times 01, which is 4; N 1. */
+#define SLOW "29=01 27=00 18=01"
+
+/* "0x29 as threshold in steps of 4 counts, axes in 0x18 bits 2:0" */
+static void slow_thresholds(void)
+{
+    story(SLOW, "0,0,0 ?00 4,0,0 ?00 9,0,0 ?08");
+    story(SLOW, "0,0,0 -4,0,0 ?00 -9,0,0 ?08"); /* no marks, and no sign */
+    story(SLOW, "9,0,0 ?00 4,0,0 ?08");         /* the first sample gives no point */
+    story(SLOW, "0,0,0 0,2047,-2048 ?00 4,-2048,2047 ?00");
+    story(SLOW " 18=02", "0,0,0 2047,4,-2048 ?00 -2048,9,2047 ?08");
+    story(SLOW " 18=04", "0,0,0 2047,-2048,-4 ?00 0,0,-9 ?08");
+    story(SLOW " 18=06", "0,0,0 2047,4,4 ?00 2047,4,9 ?08");
+    story(SLOW " 18=07", "0,0,0 4,4,-4 ?00 4,9,-4 ?08");
+    story(SLOW " 18=F1", "0,0,0 4,9,9 ?00 9,9,9 ?08 18?01"); /* bits 7:4 are ignored */
+    story(SLOW " 18=00", "0,0,0 2047,2047,2047 ?00 0,0,0 ?00");
+    story("18=01", "0,0,0 80,0,0 ?00 161,0,0 ?08"); /* the reset bytes: 4 times 14 hex */
+    story(SLOW " 29=00", "0,0,0 0,0,0 ?00 1,0,0 ?08");
+    story(SLOW " 29=FF", "-2048,0,0 -1028,0,0 ?00 -7,0,0 ?08"); /* 1020, 1021 */
+    story(SLOW " 29=FF", "-2048,0,0 2047,0,0 ?08");
+    story(SLOW " 29=FF", "2047,0,0 -2048,0,0 ?08");
+    /* the counts are those of the range, whatever it is */
+    story(SLOW " 0F=05", "0,0,0 4,0,0 ?00 9,0,0 ?08");
+    story(SLOW " 0F=08", "0,0,0 4,0,0 ?00 9,0,0 ?08");
+    story(SLOW " 0F=0C", "0,0,0 4,0,0 ?00 9,0,0 ?08");
+}
+
+/* "counts points as any-motion does, with N from 0x27 bits 3:2 plus 1" */
+static void slow_counts(void)
+{
+    story(SLOW " 27=00", "0,0,0 5,0,0 ?08 5,0,0 ?00");
+    story(SLOW " 27=04", "0,0,0 5,0,0 ?00 0,0,0 ?08 0,0,0 ?08 0,0,0 ?00");
+    story(SLOW " 27=08", "0,0,0 5,0,0 0,0,0 ?00 5,0,0 ?08 5,0,0 5,0,0 ?08 5,0,0 ?00");
+    story(SLOW " 27=0C", "0,0,0 5,0,0 0,0,0 5,0,0 ?00 0,0,0 ?08 0,0,0 0,0,0 0,0,0 ?08 0,0,0 ?00");
+    /* bits 1:0 are any-motion's, bits 7:4 are no-motion's: codes 22, 31, 63 and 60 */
+    story(SLOW " 27=03", "0,0,0 5,0,0 ?08 5,0,0 ?00");
+    story(SLOW " 27=58", "0,0,0 5,0,0 0,0,0 ?00 5,0,0 ?08 5,0,0 5,0,0 ?08 5,0,0 ?00");
+    story(SLOW " 27=7F", "0,0,0 5,0,0 0,0,0 5,0,0 ?00 0,0,0 ?08 0,0,0 0,0,0 0,0,0 ?08 0,0,0 ?00");
+    story(SLOW " 27=FF", "0,0,0 5,0,0 0,0,0 5,0,0 ?00 0,0,0 ?08 0,0,0 0,0,0 0,0,0 ?08 0,0,0 ?00");
+    story(SLOW " 27=F3", "0,0,0 5,0,0 ?08 5,0,0 ?00");
+    /* "in a row": a calm point ends a run of over points, and the other way round */
+    story(SLOW " 27=04", "0,0,0 5,0,0 5,0,0 0,0,0 ?00 5,0,0 ?08");
+    story(SLOW " 27=04", "0,0,0 5,0,0 0,0,0 0,0,0 ?08 5,0,0 5,0,0 ?08 5,0,0 ?00");
+    story(SLOW " 27=0C", "0,0,0 5,0,0 0,0,0 5,0,0 5,0,0 0,0,0 5,0,0 0,0,0 ?00 5,0,0 ?08");
+    /* not the same axis at each point; clocks count for nothing */
+    story(SLOW " 27=04 18=07", "0,0,0 5,0,0 ?00 5,0,5 ?08 5,0,5 ?08 5,0,5 ?00");
+    story(SLOW " 27=04", "0,0,0 +4294967295 5,0,0 +4294967295 ?00 0,0,0 ?08 +4294967295 ?08");
+    /* more calm points than N before, and more over points: N of the other kind all the same */
+    story(SLOW " 27=04", "0,0,0 0,0,0 0,0,0 0,0,0 5,0,0 ?00 0,0,0 5,0,0 0,0,0 ?08 0,0,0 ?08 0,0,0 ?00");
+}
+
+/* No-motion on x, calm up to 4, after 1 s. */
+#define STILL "29=01 27=00 18=09"
+#define SET_STILL "0,0,0 +1000000 0,0,0 ?08"
+
+/* "It fires at a calm point when the clock since the last over point, restart or expiry has reached
+   that, and clears at an over point" */
+static void no_motion_points(void)
+{
+    story(STILL, "0,0,0 +999999 0,0,0 ?00 +1 ?00 0,0,0 ?08");
+    story(STILL, "0,0,0 +1000000 ?00 0,0,0 ?08");
+    story(STILL, "0,0,0 +1000001 0,0,0 ?08");
+    story(STILL, "0,0,0 +1 +999998 0,0,0 ?00 +0 0,0,0 ?00 +1 0,0,0 ?08");
+    story(STILL, "0,0,0 +4294967295 +4294967295 ?00 0,0,0 ?08");
+    /* the waiting begins at the write, before any sample, and whatever samples come */
+    story(STILL, "+1000000 0,0,0 ?00 0,0,0 ?08");
+    story(STILL, "+999999 0,0,0 0,0,0 ?00 +1 0,0,0 ?08");
+    story(STILL, "+999999 0,0,0 +1 0,0,0 ?08");
+    story(STILL, "+4294967295 0,0,0 ?00 0,0,0 ?08");
+    story("29=01", "0,0,0 0,0,0 +4294967295 18=09 0,0,0 ?00 +999999 0,0,0 ?00 +1 0,0,0 ?08");
+    /* 4 is calm, 5 is over: it begins anew there, and nothing fires at an over point */
+    story(STILL, "0,0,0 +1000000 4,0,0 ?08");
+    story(STILL, "0,0,0 +1000000 -4,2047,-2048 ?08"); /* y and z are not enabled */
+    story(STILL, "0,0,0 +1000000 5,0,0 ?00 5,0,0 ?00 +999999 5,0,0 ?00 +1 9,0,0 ?08");
+    story(STILL, "0,0,0 +999999 -5,0,0 +1 -5,0,0 ?00 +999998 -5,0,0 ?00 +1 -5,0,0 ?08");
+    story(STILL " 18=0E", "0,0,0 +1000000 2047,4,-4 ?08 0,0,0 ?08 0,0,5 ?00");
+    story(STILL " 18=0A", "0,0,0 +1000000 2047,5,2047 ?00 +1000000 -2048,9,-2048 ?08");
+    story(STILL " 29=00", "0,0,0 +1000000 1,0,0 ?00 +1000000 1,0,0 ?08");
+    story(STILL " 29=FF", "0,0,0 +1000000 -1020,0,0 ?08 1,0,0 ?00");
+    story("18=0F", "0,0,0 +1000000 80,80,80 ?08 0,0,-1 ?00"); /* the reset bytes */
+    /* it clears at one over point, whatever N is, and at nothing else */
+    story(STILL, SET_STILL " 0,0,0 4,0,0 ?08 +4294967295 ?08 9,0,0 ?00 9,0,0 ?00");
+    story(STILL " 27=03", SET_STILL " 5,0,0 ?00");
+    story(STILL " 27=0F", "0,0,0 +3999999 0,0,0 ?00 +1 0,0,0 ?08 5,0,0 ?00");
+    story(STILL, SET_STILL " 5,0,0 ?00 +999999 5,0,0 ?00 +1 5,0,0 ?08 +1000000 5,0,0 ?08 0,0,0 ?00");
+    story(STILL, SET_STILL " +1000000 5,0,0 ?00 5,0,0 ?00"); /* nothing from before the over point */
+    /* no axis: neither fires nor clears */
+    story(STILL " 18=08", "0,0,0 +1000000 0,0,0 ?00 +4294967295 0,0,0 2047,0,0 2047,0,0 ?00");
+    story(STILL, SET_STILL " 18=08 ?00 +4294967295 0,0,0 0,0,0 ?00");
+    /* bit 3 is no axis, nor are the bits above it */
+    story(STILL " 18=F8", "0,0,0 +1000000 0,0,0 ?00 18?08");
+}
+
+/* Table 21 of the sheet: the ends of each range of codes and what is next to them. */
+static void no_motion_codes(void)
+{
+    static const unsigned seconds[][2] = {{0, 1},   {1, 2},   {2, 3},    {14, 15},  {15, 16},
+                                          {16, 40}, {17, 48}, {18, 56},  {19, 64},  {20, 72},
+                                          {21, 80}, {32, 88}, {33, 96},  {34, 104}, {62, 328},
+                                          {63, 336}};
+    char opening[64], rest[128];
+
+    for (size_t i = 0; i < sizeof seconds / sizeof *seconds; i++)
+        for (unsigned n = 0; n < 4; n++) {
+            unsigned before = seconds[i][1] * S - 1;
+
+            snprintf(opening, sizeof opening, STILL " 27=%02X", seconds[i][0] << 2 | n);
+            snprintf(rest, sizeof rest, "0,0,0 +%u 0,0,0 ?00 +1 0,0,0 ?08 5,0,0 ?00", before);
+            story(opening, rest);
+            snprintf(rest, sizeof rest, "0,0,0 5,0,0 +%u ?00 5,0,0 ?08", before + 1);
+            story(opening, rest);
+        }
+}
+
+/* "2 for the write to 0x18 or 0x27 that would bring no-motion and such a code together" */
+static void no_motion_refusals(void)
+{
+    story("18=08", "27=54 27=57 27=58!2 27=5B!2 27?57 27=7C!2 27=7F!2 27?57 27=80 27?80");
+    story("27=57", "18=08 18?08 18=07 27=58 18=08!2 18?07 18=0F!2 18=F8!2 18=F7 18?07");
+    story("27=58", "18=08!2 18=09!2 18?00 27=7F 18=08!2 27=80 18=08 18?08 27=7F!2 27?80");
+    story("27=7C", "18=0F!2 27=80 18=0F 27=7C!2 18=07 27=7C 27?7C");
+    story("18=09 27=FF", "27=5B!2 18=01 27=5B 18=01 18=00 18=09!2 27=00 18=09 27?00");
+    /* in slow motion a code without a meaning counts N by its bits 3:2 */
+    story(SLOW " 27=58", "0,0,0 5,0,0 0,0,0 18=09!2 ?00 5,0,0 ?08 18=0F!2 ?08 18?01 5,0,0 5,0,0 5,0,0 ?00");
+    /* a refused write restarts nothing, and no sample is forgotten */
+    story(STILL, "0,0,0 +999999 27=58!2 +1 0,0,0 ?08 27=7F!2 ?08 0F=04!2 16=17!11 ?08 5,0,0 ?00");
+    story(STILL " 27=54", "+79999999 27=58!2 18=F9 0,0,0 +79999999 27=7C!2 +1 0,0,0 ?08 27=58!2 ?08");
+    story(STILL " 21=09", SET_STILL " +249 27=58!2 ?08 +1 ?00 +999999 27=60!2 0,0,0 ?00 +1 0,0,0 ?08");
+    story("18=08 27=58!2", "18=09 29=01 0,0,0 +1000000 0,0,0 ?08"); /* the code is still 0 */
+    /* soft reset ends no-motion, and any code is there again */
+    story("18=09 27=58!2 14=B6", "27=58 18=01 18=09!2 14=B6 18=09 18?09 27?00");
+}
+
+static void every_code(void)
+{
+    for (unsigned in_18 = 0; in_18 < 16; in_18++)
+        for (unsigned in_27 = 0; in_27 < 256; in_27++) {
+            unsigned wanted = no_meaning(in_18, in_27) ? 2 : 0, code = in_27 / 4;
+            struct peer t = fresh(0x18, (uint8_t)in_18), other = fresh(0x27, (uint8_t)in_27);
+
+            check(peer_write(&t, 0x27, (uint8_t)in_27) == wanted &&
+                      peer_write(&other, 0x18, (uint8_t)in_18) == wanted,
+                  "18=%02X and 27=%02X are %u in both orders", in_18, in_27, wanted);
+            if (wanted == 0 && in_18 > 8) {
+                uint32_t time = (code < 16 ? code + 1 : code < 22 ? 8 * code - 88 : 8 * code - 168) * S;
+
+                peer_sample(&t, 0, 0, 0, 0);
+                peer_clock(&t, time - 1);
+                peer_sample(&t, 0, 0, 0, 0);
+                check(shows(&t, 0x00, 0) && peer_clock(&t, 1) == 0 && sample_x(&t, 0) == 0 &&
+                          shows(&t, 0x08, 0),
+                      "18=%02X, 27=%02X waits %u us", in_18, in_27, time);
+            }
+        }
+}
+
+/* "it latches as any-motion does": of N 2. */
+#define SLOW_2 SLOW " 27=04"
+#define SET_SLOW "0,0,0 5,0,0 0,0,0 ?08"
+
+static const struct latch_story slow_latched[] = {
+    {"00", "0,0,0 ?08 0,0,0 ?00"},
+    {"08", "0,0,0 5,0,0 5,0,0 ?08 5,0,0 ?00"},
+    {"80", "+4294967295 0,0,0 ?08 0,0,0 ?00"},
+    {"07", "0,0,0 0,0,0 0,0,0 +4294967295 ?08"},
+    {"0F", "0,0,0 0,0,0 5,0,0 0,0,0 ?08 0,0,0 0,0,0 0,0,0 ?08 21=0F ?00"},
+    {"07", "0,0,0 21=00 ?00 5,0,0 ?00 0,0,0 ?08 0,0,0 0,0,0 ?00"},
+    /* neither calm nor over points move the end, which ends the runs too */
+    {"09", "+249 ?08 +1 ?00"},
+    {"09", "+250 ?00 +4294967295 ?00"},
+    {"09", "+4294967295 ?00"},
+    {"09", "0,0,0 0,0,0 0,0,0 +249 0,0,0 0,0,0 ?08 +1 ?00"},
+    {"09", "5,0,0 +249 0,0,0 5,0,0 ?08 +1 ?00"},
+    {"09", "5,0,0 0,0,0 5,0,0 +250 0,0,0 ?00 5,0,0 ?08 +249 ?08 +1 ?00"},
+    {"09", "0,0,0 5,0,0 +250 0,0,0 ?00 5,0,0 ?08"},
+    {"0E", "+49999 ?08 +1 ?00"},
+    {"01", "+249999 ?08 +1 ?00"},
+    {"06", "+7999999 0,0,0 0,0,0 ?08 +1 ?00 0,0,0 ?00"},
+};
+
+static const struct latch_story still_latched[] = {
+    {"00", "+4294967295 0,0,0 ?08 5,0,0 ?00 5,0,0 ?00"},
+    {"08", "5,0,0 ?00 +1000000 5,0,0 ?08"},
+    {"80", "0,0,0 -5,0,0 ?00 +999999 -5,0,0 ?00"},
+    {"07", "5,0,0 0,0,0 5,0,0 ?08 +4294967295 0,0,0 ?08"},
+    {"0F", "5,0,0 ?08 5,0,0 ?08 21=0F ?00 +999999 5,0,0 ?00 +1 5,0,0 ?08"},
+    {"07", "5,0,0 ?08 21=00 ?00 +1000000 5,0,0 ?08 0,0,0 ?00"},
+    /* neither calm nor over points move the end */
+    {"09", "+249 ?08 +1 ?00"},
+    {"09", "5,0,0 ?08 +249 0,0,0 ?08 +1 ?00"},
+    {"09", "0,0,0 +249 0,0,0 ?08 +1 ?00"},
+    /* the waiting begins at the end, in one clock or more: 250 us, then 1 s */
+    {"09", "+250 ?00 0,0,0 ?00 +999999 0,0,0 ?00 +1 ?00 0,0,0 ?08 +249 ?08 +1 ?00"},
+    {"09", "+1000249 ?00 0,0,0 ?00 +1 0,0,0 ?08"},
+    {"09", "+1000250 ?00 0,0,0 ?08"},
+    {"09", "+249 +1000000 0,0,0 ?00 +1 0,0,0 ?08"},
+    {"09", "+249 +1000001 ?00 0,0,0 ?08 +250 ?00"},
+    {"09", "+1 +1 +1000247 0,0,0 ?00 +1 0,0,0 ?08"},
+    {"09", "+4294967295 ?00 0,0,0 ?08 +4294967295 ?00 0,0,0 ?08"},
+    {"09", "0,0,0 0,0,0 +1000249 0,0,0 ?00 +1 0,0,0 ?08"},
+    {"09", "+1000250 5,0,0 ?00 +999999 5,0,0 ?00 +1 5,0,0 ?08"}, /* an over point behind the end */
+    {"09", "+500 5,0,0 +999999 5,0,0 ?00 +1 5,0,0 ?08"},
+    {"09", "5,0,0 +1000249 5,0,0 ?00 +1 5,0,0 ?08"}, /* and one before it */
+    {"01", "+249999 ?08 +1000000 0,0,0 ?00 +1 0,0,0 ?08"},
+    {"01", "+1249999 0,0,0 ?00 +1 0,0,0 ?08"},
+    {"01", "+1250000 0,0,0 ?08 +1249999 0,0,0 ?00 +1 0,0,0 ?08"},
+    /* a hold of 8 s, longer than the waiting */
+    {"06", "+7999999 0,0,0 ?08 +1 0,0,0 ?00 +999999 0,0,0 ?00 +1 0,0,0 ?08"},
+    {"06", "+1000000 0,0,0 5,0,0 ?08 +6999999 ?08 +1000000 5,0,0 ?00 +1 5,0,0 ?08"},
+    {"06", "+8999999 0,0,0 ?00 +1 0,0,0 ?08"},
+    {"06", "+9000000 0,0,0 ?08"},
+};
+
+static void slow_latches(void)
+{
+    latch_stories(SLOW_2, SET_SLOW, slow_latched, sizeof slow_latched / sizeof *slow_latched);
+    latch_stories(STILL, SET_STILL, still_latched, sizeof still_latched / sizeof *still_latched);
+    /* before the setting an over point begins the waiting anew in each mode of 0x21 */
+    story(STILL " 21=07", "0,0,0 +999999 5,0,0 +1 5,0,0 ?00 +999998 5,0,0 ?00 +1 5,0,0 ?08");
+    story(STILL " 21=09", "0,0,0 +999999 5,0,0 +1 5,0,0 ?00 +999998 5,0,0 ?00 +1 5,0,0 ?08");
+    /* 336 s and 8 s in one clock */
+    story(STILL " 27=FC 21=06", "0,0,0 +336000000 0,0,0 ?08 +343999999 0,0,0 ?00 +1 0,0,0 ?08");
+    story(STILL " 27=FC 21=06", "0,0,0 +336000000 0,0,0 ?08 +344000000 0,0,0 ?08");
+}
+
+/* "an accepted write to 0x0F, 0x18, 0x21, 0x27 or 0x29 restarts it", with the same byte or another
+   that leaves x, the mode, the threshold and the time. */
+static const char *const slow_restarts[] = {
+    "21=00", "21=08", "21=80", "27=00", "27=03", "29=01", "18=09", "18=F9",
+};
+
+/* What does not: writes to other registers, any-motion's among them, and refused ones. */
+static const char *const slow_others[] = {
+    "0F=04!2", "10=0F",   "11=00", "11=80!12", "12=00",    "13=40",    "14=B5", "16=00",
+    "16=07",   "16=17!11", "17=00", "17=7F",   "19=08",    "1A=FF",    "1B=08", "1E=08",
+    "20=00",   "22=00",   "23=30", "24=81",    "25=0F",    "26=C0",
+    "28=00",   "28=FF",   "2A=00", "2F=00",    "30=01",    "32=01!13", "38=00", "38=01!13",
+    "3B=FF",   "3E=40",   "3E=C0!2", "3F=00",  "40=00!1",  "58=09!1",  "69=01!1", "00=00",
+    "09=00",   "1F=00",
+};
+
+static void slow_writes(void)
+{
+    EACH_WRITE(STILL, SET_STILL " %s 09?00 0,0,0 09?00 +999999 0,0,0 09?00 +1 0,0,0 09?08", slow_restarts);
+    EACH_WRITE(STILL, "0,0,0 +1000000 %s 0,0,0 ?00 +999999 0,0,0 ?00 +1 0,0,0 ?08", slow_restarts);
+    EACH_WRITE(STILL, "0,0,0 +999999 %s +1 0,0,0 ?00 +999999 ?00 0,0,0 ?08", slow_restarts);
+    EACH_WRITE(STILL " 21=07", SET_STILL " 5,0,0 ?08 %s 09?00 +1000000 5,0,0 09?08", slow_restarts);
+    EACH_WRITE(STILL " 21=06", SET_STILL " +7999999 ?08 %s 09?00 +1 0,0,0 ?00 +999999 0,0,0 ?08",
+               slow_restarts);
+    EACH_WRITE(STILL, SET_STILL " %s 09?08 0,0,0 09?08", slow_others);
+    EACH_WRITE(STILL, "0,0,0 +999999 %s +1 0,0,0 09?08", slow_others);
+    EACH_WRITE(STILL " 21=09", SET_STILL " +249 %s 09?08 +1 09?00 +999999 0,0,0 09?00 +1 0,0,0 09?08",
+               slow_others);
+    EACH_WRITE(SLOW_2, "0,0,0 5,0,0 %s 10,0,0 09?08 10,0,0 09?08", slow_others);
+    /* 0x0F forgets the sample before: the next one is no point, the one after it may fire */
+    story(STILL, SET_STILL " 0F=03 ?00 +1000000 0,0,0 ?00 0,0,0 ?08");
+    story(STILL, SET_STILL " 0F=FC ?00 +999999 2047,0,0 2047,0,0 ?00 +1 2047,0,0 ?08");
+    story(STILL, "0,0,0 +1000000 0F=05 0,0,0 0,0,0 ?00 +1000000 0,0,0 ?08");
+    story(SLOW, "0,0,0 5,0,0 ?08 0F=03 ?00 2047,0,0 ?00 2047,0,0 ?00 -2048,0,0 ?08");
+    story(SLOW_2, "0,0,0 5,0,0 0F=03 0,0,0 5,0,0 ?00 0,0,0 ?08");
+    /* the others don't: the next sample is a point, and no run is left */
+    story(SLOW_2, "0,0,0 5,0,0 18=01 0,0,0 ?00 5,0,0 ?08 18=01 ?00 0,0,0 ?00 5,0,0 ?08");
+    story(SLOW_2, "0,0,0 5,0,0 29=01 0,0,0 ?00 5,0,0 ?08 29=00 ?00 0,0,0 ?00 1,0,0 ?08");
+    story(SLOW_2, "0,0,0 5,0,0 27=04 0,0,0 ?00 5,0,0 ?08 27=00 ?00 0,0,0 ?08");
+    story(SLOW_2, "0,0,0 5,0,0 21=07 0,0,0 ?00 5,0,0 ?08 21=09 ?00 0,0,0 ?00 5,0,0 ?08");
+    /* a sample is remembered while no axis is enabled */
+    story(SLOW " 18=00", "0,0,0 18=01 5,0,0 ?08");
+    story(SLOW " 18=00", "9,0,0 0,0,0 18=01 4,0,0 ?00");
+    /* from one mode to the other: nothing is kept */
+    story(SLOW, "0,0,0 5,0,0 ?08 18=09 ?00 5,0,0 ?00 +999999 5,0,0 ?00 +1 5,0,0 ?08 18=01 ?00 10,0,0 ?08");
+    story(SLOW, "0,0,0 +4294967295 18=09 0,0,0 ?00 +1000000 0,0,0 ?08");
+    story(STILL " 27=04", "0,0,0 5,0,0 18=01 0,0,0 ?00 5,0,0 ?08");
+    story(STILL, SET_STILL " 14=B6 ?00 0,0,0 +4294967295 0,0,0 ?00");
+    /* another time from the write on: 2 s in place of 1 s and the other way round */
+    story(STILL, "0,0,0 +999999 27=04 +1999999 0,0,0 ?00 +1 0,0,0 ?08");
+    story(STILL " 27=04", "0,0,0 +1999999 27=00 +999999 0,0,0 ?00 +1 0,0,0 ?08");
+}
+
+/* Any-motion beside it, on x too, over above 4. 0x0B is any-motion's alone. */
+#define ANY "16=01 28=01 "
+
+static void beside_any_motion(void)
+{
+    story(ANY SLOW, "0,0,0 -5,0,0 09?0C 0B?09 -5,0,0 09?00 0B?08");
+    story(ANY SLOW " 27=04", "0,0,0 5,0,0 09?04 10,0,0 09?0C 10,0,0 09?08 10,0,0 09?00");
+    story(ANY SLOW " 27=01", "0,0,0 5,0,0 ?08 10,0,0 09?0C 0B?01 10,0,0 09?04 10,0,0 09?00");
+    story(ANY SLOW " 29=02", "0,0,0 8,0,0 09?04 17,0,0 09?0C");
+    story(ANY SLOW " 28=02", "0,0,0 8,0,0 ?08 17,0,0 09?0C");
+    story(ANY SLOW " 18=04", "0,0,0 0,0,-5 ?08 5,0,-5 09?04 0B?01");
+    story(ANY STILL, "0,0,0 +1000000 0,0,0 ?08 5,0,0 09?04 5,0,0 09?00");
+    story(ANY STILL " 27=03", "0,0,0 +1000000 0,0,0 ?08 5,0,0 ?00 0,0,0 5,0,0 ?00 0,0,0 09?04");
+    /* the writes that restart one of them */
+    story(ANY SLOW " 21=07", "0,0,0 5,0,0 09?0C 16=01 ?08 10,0,0 09?0C 18=01 09?04 0B?01 27=00 ?00");
+    story(ANY SLOW " 21=07", "0,0,0 5,0,0 09?0C 28=01 ?08 10,0,0 09?0C 29=01 09?04 0B?01 15,0,0 09?0C");
+    story(ANY SLOW " 27=05", "0,0,0 5,0,0 16=01 10,0,0 ?08 15,0,0 09?0C");
+    story(ANY SLOW " 27=05", "0,0,0 5,0,0 28=01 10,0,0 ?08 15,0,0 09?0C");
+    story(ANY SLOW " 27=05", "0,0,0 5,0,0 18=01 10,0,0 09?04 15,0,0 09?0C");
+    story(ANY SLOW " 27=05", "0,0,0 5,0,0 29=01 10,0,0 09?04 15,0,0 09?0C");
+    story(ANY SLOW " 27=05", "0,0,0 5,0,0 27=05 10,0,0 ?00 15,0,0 09?0C 21=00 ?00");
+    story(ANY SLOW " 27=05", "0,0,0 5,0,0 18=09 10,0,0 09?04"); /* accepted or refused */
+    story(ANY SLOW " 27=59", "0,0,0 5,0,0 18=09!2 10,0,0 09?04 15,0,0 09?0C");
+    story(ANY SLOW, "0,0,0 5,0,0 09?0C 0F=03 ?00 100,0,0 ?00 105,0,0 09?0C");
+    story(ANY STILL " 27=54", "0,0,0 5,0,0 09?04 27=58!2 09?04 27=54 ?00");
+    /* each has its own time, of 1 ms: slow motion from 0 to 1000, any-motion from 500 to 1500 */
+    story(ANY SLOW " 27=01 21=0B", "0,0,0 5,0,0 ?08 +500 10,0,0 09?0C +499 09?0C +1 09?04 +499 09?04 +1 ?00");
+    story(ANY SLOW " 27=04 21=0B", "0,0,0 5,0,0 09?04 +500 10,0,0 09?0C +499 09?0C +1 ?08 +499 ?08 +1 ?00");
+    story(ANY SLOW " 27=04 21=0B", "0,0,0 5,0,0 09?04 +500 10,0,0 09?0C +1000 09?00");
+    /* the end of any-motion's leaves the waiting, and no-motion's end leaves any-motion's run */
+    story(ANY STILL " 21=01", "0,0,0 5,0,0 09?04 +250000 09?00 +749999 5,0,0 09?00 +1 5,0,0 09?08");
+    story(ANY STILL " 27=01 21=09", "0,0,0 +1000000 0,0,0 ?08 5,0,0 ?08 +250 ?00 0,0,0 09?04");
+    story(ANY SLOW " 27=04 21=09", "0,0,0 5,0,0 09?04 +250 09?00 10,0,0 09?0C"); /* nor slow motion's run */
+    /* low-g beside it: 48 counts, 2 ms */
+    story(LOW " " STILL, "0,0,0 +1000000 0,0,0 ?09 22=00 ?08 18=09 ?00 +999999 0,0,0 ?00 +1 0,0,0 ?08");
+    story(LOW " " STILL, "0,0,0 +1000000 0,0,0 ?09 18=09 ?01 0,0,0 ?01 48,0,0 ?00");
+    story(LOW " " STILL " 21=09", "0,0,0 +1000000 0,0,0 ?09/00 +250 ?00/00 0,0,0 +2000 0,0,0 ?01/00");
+}
+
+static void slow_pins(void)
+{
+    struct peer t = fresh(0x18, 0x01);
+
+    sample_x(&t, 0);
+    sample_x(&t, 100);
+    check(shows(&t, 0x08, 0) && pins_are(&t, PEER_LOW, PEER_LOW), "slow motion, unmapped");
+    peer_write(&t, 0x19, 0x08);
+    peer_write(&t, 0x1B, 0xF7);
+    check(pins_are(&t, PEER_HIGH, PEER_LOW), "slow motion on INT1");
+    peer_write(&t, 0x19, 0xF7);
+    peer_write(&t, 0x1B, 0x08);
+    check(pins_are(&t, PEER_LOW, PEER_HIGH), "slow motion on INT2");
+    sample_x(&t, 100);
+    check(shows(&t, 0, 0) && pins_are(&t, PEER_LOW, PEER_LOW), "slow motion went");
+    peer_write(&t, 0x18, 0x09);
+    peer_clock(&t, 1 * S);
+    sample_x(&t, 100);
+    check(shows(&t, 0x08, 0) && pins_are(&t, PEER_LOW, PEER_HIGH), "no-motion on INT2");
+    peer_write(&t, 0x20, 0x02);
+    check(pins_are(&t, PEER_RELEASED, PEER_LOW), "active levels 0, INT1 open-drive");
+}
+
+/* What the twin refuses is no sample, and a cycle start and reads move nothing. */
+static void slow_samples(void)
+{
+    struct peer t = fresh(0x18, 0x09);
+
+    sample_x(&t, 0);
+    peer_clock(&t, 1 * S);
+    check(sample_x(&t, 2048) == 4 && peer_sample(&t, 0, 0, -2049, 0) == 4 && shows(&t, 0, 0),
+          "a refused sample is no calm point, and no over point");
+    check(peer_cycle_start(&t) == 0 && reads(&t, 0x00, 63) == 0 && reads(&t, 0x3F, 12) == 0 &&
+              shows(&t, 0, 0),
+          "nor is there one at a cycle start or a read");
+    check(sample_x(&t, 80) == 0 && shows(&t, 0x08, 0), "no-motion is set with the sample before them");
+    check(sample_x(&t, 2048) == 4 && peer_cycle_start(&t) == 0 && reads(&t, 0x00, 63) == 0 &&
+              shows(&t, 0x08, 0),
+          "nor do they clear it");
+}
+
+/* ---- slow motion and no-motion against their history ---- */
+
+/* The points since power-up or the last settings. Each is judged by the text alone, and the status
+   is worked out by going back over them. */
+struct points {
+    struct {
+        uint64_t at; /* microseconds */
+        bool over;
+    } point[1000];
+    int points;
+    int from;       /* no point before this one counts: the last restart or expiry */
+    uint64_t begun; /* when that was */
+    uint64_t now;
+    int sample[3];
+    bool any_sample;
+    int in_18, in_27, threshold; /* the bytes of 0x18, 0x27 and 0x29 */
+    uint32_t hold;               /* 0 for none */
+    bool latched, set;
+    uint64_t since;
+};
+
+static uint64_t wait_of(const struct points *p)
+{
+    int code = p->in_27 >> 2;
+
+    return (uint64_t)(code < 16 ? 1 + code : code < 22 ? 40 + (code - 16) * 8 : 88 + (code - 32) * 8) * S;
+}
+
+/* How many points in a row, back from the last, are over or calm. */
+static int in_a_row(const struct points *p, bool over)
+{
+    int count = 0;
+
+    while (p->points - count > p->from && p->point[p->points - 1 - count].over == over)
+        count++;
+    return count;
+}
+
+/* When the last over point, restart or expiry was. */
+static uint64_t last_unrest(const struct points *p)
+{
+    int calm = in_a_row(p, false);
+
+    return p->points - calm > p->from ? p->point[p->points - 1 - calm].at : p->begun;
+}
+
+static void judge_point(struct points *p)
+{
+    bool over = p->point[p->points - 1].over, non_latched = !p->latched && p->hold == 0;
+    int n = (p->in_27 >> 2) % 4 + 1;
+    bool no_motion = p->in_18 & 8;
+    bool sets = no_motion ? !over && p->now - last_unrest(p) >= wait_of(p) : in_a_row(p, true) >= n;
+    bool clears = no_motion ? over : in_a_row(p, false) >= n;
+
+    if (!p->set && sets) {
+        p->set = true;
+        p->since = p->now;
+    } else if (p->set && clears && non_latched) {
+        p->set = false;
+    }
+}
+
+static void points_sample(struct points *p, const int sample[3])
+{
+    bool point = p->any_sample && p->in_18 & 7, over = false;
+
+    for (int axis = 0; axis < 3; axis++) {
+        over |= p->in_18 >> axis & 1 && abs(sample[axis] - p->sample[axis]) > 4 * p->threshold;
+        p->sample[axis] = sample[axis];
+    }
+    p->any_sample = true;
+    if (!point)
+        return;
+    p->point[p->points].at = p->now;
+    p->point[p->points++].over = over;
+    judge_point(p);
+}
+
+static void points_restart(struct points *p, uint64_t at)
+{
+    p->set = false;
+    p->from = p->points;
+    p->begun = at;
+}
+
+static void points_clock(struct points *p, uint32_t microseconds)
+{
+    p->now += microseconds;
+    if (p->set && p->hold > 0 && p->now - p->since >= p->hold)
+        points_restart(p, p->since + p->hold);
+}
+
+/* Three twins: a clock comes to the second in parts, and the third has no slow motion at all. */
+struct three {
+    struct peer whole, parts, without;
+};
+
+static void write_three(struct three *t, int address, int byte)
+{
+    write_both(&t->whole, &t->parts, address, byte);
+    if (address != 0x18 && address != 0x29)
+        peer_write(&t->without, (uint8_t)address, (uint8_t)byte);
+}
+
+/* Up to the end of the waiting or of the hold, or one microsecond beside it, or a part of it. */
+static void slow_random_clock(struct three *t, struct points *p)
+{
+    uint64_t waits = last_unrest(p) + wait_of(p), ends = p->since + p->hold;
+    uint64_t aim = p->set && draw(2) ? ends : p->set && p->hold > 0 ? ends + wait_of(p) : waits;
+    uint64_t time = aim > p->now ? aim - p->now : draw(3) * (uint64_t)S;
+    uint32_t microseconds = (uint32_t)(draw(3) ? time : time / (1 + draw(4)));
+
+    microseconds += draw(3);
+    microseconds -= microseconds > 0;
+    if (draw(60) == 0)
+        microseconds = UINT32_MAX;
+    peer_clock(&t->without, microseconds);
+    clock_both(&t->whole, &t->parts, microseconds);
+    points_clock(p, microseconds);
+}
+
+/* At either side of the threshold on one axis, calm or as it was on the others. */
+static void slow_random_sample(struct three *t, struct points *p)
+{
+    int sample[3] = {p->sample[0], p->sample[1], p->sample[2]};
+    int size = 4 * p->threshold + (draw(4) ? 0 : 1), axis = (int)draw(3);
+
+    sample[axis] += sample[axis] > 0 ? -size : size;
+    peer_sample(&t->whole, sample[0], sample[1], sample[2], 0);
+    peer_sample(&t->parts, sample[0], sample[1], sample[2], 0);
+    peer_sample(&t->without, sample[0], sample[1], sample[2], 0);
+    points_sample(p, sample);
+}
+
+/* Writes that restart it with the byte that is there, that don't, and that are refused. */
+static void slow_random_write(struct three *t, struct points *p, int latch)
+{
+    const int restarts[][2] = {
+        {0x0F, 0x03}, {0x18, p->in_18}, {0x21, latch}, {0x27, p->in_27}, {0x29, p->threshold}};
+    const int others[][2] = {{0x16, 0x07}, {0x28, 0x01}, {0x17, 0x0F}, {0x22, 0x00},
+                             {0x24, 0x00}, {0x0F, 0x00}, {0x14, 0x00}, {0x30, 0x02}};
+    bool restart = draw(2);
+    const int *write = restart ? restarts[draw(5)] : others[draw(8)];
+
+    write_three(t, write[0], write[1]);
+    if (restart)
+        points_restart(p, p->now);
+    if (restart && write[0] == 0x0F)
+        p->any_sample = false;
+    if (p->in_18 & 8)
+        write_both(&t->whole, &t->parts, 0x27, (int)(22 + draw(10)) << 2); /* refused */
+}
+
+/* Slow motion with any code, and no-motion with any that has a meaning; gives the byte of 0x21. */
+static int slow_random_settings(struct three *t, struct points *p)
+{
+    static const int thresholds[] = {0, 1, 2, 20, 254, 255};
+    int latch = (int)(draw(2) ? draw(16) : 8 * draw(2));
+    int code = (int)(draw(2) ? draw(4) : draw(64));
+
+    p->points = 0;
+    write_three(t, 0x18, 0x00);
+    p->in_18 = (int)(draw(8) ? 1 + draw(7) : 0) | (int)draw(2) << 3;
+    p->in_27 = (p->in_18 & 8 && code > 21 && code < 32 ? code + 16 : code) << 2 | (int)draw(4);
+    p->threshold = thresholds[draw(sizeof thresholds / sizeof *thresholds)];
+    p->latched = latch == 7 || latch == 15;
+    p->hold = 0;
+    for (int i = 0; i < HOLDS; i++)
+        if (holds[i].code == (unsigned)latch)
+            p->hold = holds[i].time;
+    write_three(t, 0x29, p->threshold);
+    write_three(t, 0x21, latch);
+    write_three(t, 0x27, p->in_27);
+    write_three(t, 0x18, p->in_18);
+    points_restart(p, p->now);
+    return latch;
+}
+
+/* Whether 0x09 and 0x0B are those of a twin without slow motion, but for its status. */
+static bool beside(struct peer *t, struct peer *without, bool set)
+{
+    uint8_t got[4], other[4];
+
+    peer_read(t, 0x09, got, 4);
+    peer_read(without, 0x09, other, 4);
+    return got[0] == (other[0] | (set ? 8 : 0)) && memcmp(got + 1, other + 1, 3) == 0;
+}
+
+static void slow_at_random(void)
+{
+    static struct points p;
+    struct three t;
+    int apart = 0, seen[2] = {0, 0}, ends = 0;
+
+    peer_power_up(&t.whole);
+    peer_write(&t.whole, 0x16, 0x07);
+    peer_write(&t.whole, 0x28, 0x01);
+    t.parts = t.without = t.whole;
+    for (int turn = 0; turn < 6000; turn++) {
+        int latch = slow_random_settings(&t, &p);
+
+        for (int i = 0; i < 60; i++) {
+            unsigned choice = draw(20);
+            bool before = p.set;
+
+            if (choice < 11)
+                slow_random_sample(&t, &p);
+            else if (choice < 19)
+                slow_random_clock(&t, &p);
+            else
+                slow_random_write(&t, &p, latch);
+            apart += !same(&t.whole, &t.parts) || !beside(&t.whole, &t.without, p.set);
+            seen[p.in_18 >> 3] += p.set && !before;
+            ends += before && !p.set && p.hold > 0;
+        }
+    }
+    check(apart == 0, "slow motion: %d events at random part the twins or their history", apart);
+    check(seen[0] > 1000 && seen[1] > 1000 && ends > 1000,
+          "set at random: %d and %d times, and %d times ended", seen[0], seen[1], ends);
+}
+
+static void slow_and_no_motion(void)
+{
+    slow_thresholds();
+    slow_counts();
+    no_motion_points();
+    no_motion_codes();
+    no_motion_refusals();
+    every_code();
+    slow_latches();
+    slow_writes();
+    beside_any_motion();
+    slow_pins();
+    slow_samples();
+    slow_at_random();
 }
 
 /* ---- programs ---- */
@@ -2113,8 +2778,11 @@ static void refusals_go_on(void)
     replay("01 00 03 01 16 80 00 03 01 17 01 00 03 01 18 0C 00 03 01 11 C0 00 03 01 32 05"
            "00 03 01 33 02 00 03 01 36 80 00 03 01 3A 01 00 03 01 21 89 00 03 02 16 03"
            "00 03 01 18 08 00 03 01 21 88 00 03 02 18 01 00 03 02 21 01",
-           "1 11\n2 0\n3 11\n4 12\n5 13\n6 13\n7 13\n8 13\n9 0\n10 0 000100\n11 0\n12 0\n"
+           "1 11\n2 0\n3 0\n4 12\n5 13\n6 13\n7 13\n8 13\n9 0\n10 0 00010C\n11 0\n12 0\n"
            "13 0 08\n14 0 08\npins 0 0\n");
+    replay("01 00 03 01 18 08 00 03 01 27 58 00 03 02 27 01 00 03 01 18 07 00 03 01 27 58"
+           "00 03 01 18 08 00 03 02 18 01 00 03 02 27 01",
+           "1 0\n2 2\n3 0 00\n4 0\n5 0\n6 2\n7 0 07\n8 0 58\npins 0 0\n");
 }
 
 #define SAMPLE_AND_STATUS "00 08 03 00 00 00 00 00 00 00 00 03 02 0A 01"
@@ -2589,7 +3257,7 @@ static void told_once_after_doubt(void)
 static void refused_writes(void)
 {
     begin_log("01 00 03 01 11 80 00 03 01 14 B5 00 03 01 00 12 00 03 01 3F FF 00 03 01 15 FF"
-              "00 03 01 40 0A 00 03 01 FF B6 00 03 01 16 80 00 03 01 17 0F 00 03 01 18 04"
+              "00 03 01 40 0A 00 03 01 FF B6 00 03 01 16 80 00 03 01 27 58 00 03 01 18 08"
               "00 03 01 32 01 00 03 01 33 02 00 03 01 36 80 00 03 01 38 01 00 03 01 3A FF"
               "00 03 02 40 01 00 03 02 3F 00 00 03 02 3F C1 00 03 02 3E 02"
               "00 08 03 08 00 00 00 00 00 00 00 03 01 11 1E");
@@ -2599,7 +3267,7 @@ static void refused_writes(void)
                    "record 6 wrote 0A to 40 and was refused 1\n"
                    "record 7 wrote B6 to FF and was refused 1\n"
                    "record 8 wrote 80 to 16 and was refused 11\n"
-                   "record 10 wrote 04 to 18 and was refused 11\n"
+                   "record 10 wrote 08 to 18 and was refused 2\n"
                    "record 11 wrote 01 to 32 and was refused 13\n"
                    "record 12 wrote 02 to 33 and was refused 13\n"
                    "record 13 wrote 80 to 36 and was refused 13\n"
@@ -2968,6 +3636,7 @@ int main(int count, char **argument)
     pins();
     latch_times();
     low_and_high_g();
+    slow_and_no_motion();
     replays();
     account_and_twin();
     which_was_lost();

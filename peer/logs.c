@@ -536,8 +536,8 @@ static void write_scene(struct log *l)
     int writes = 3 + below(l, 8);
 
     while (writes-- > 0) {
-        int address = PICK(l, 0x0F, 0x11, 0x16, 0x17, 0x18, 0x21, 0x32, 0x33, 0x36, 0x38, 0x39,
-                           0x3A, 0x3E, 0x0F, 0x21, 0x0E, 0x3F, 0x40, 0xFF);
+        int address = PICK(l, 0x0F, 0x11, 0x16, 0x17, 0x18, 0x21, 0x27, 0x29, 0x32, 0x33, 0x36,
+                           0x38, 0x39, 0x3A, 0x3E, 0x0F, 0x21, 0x0E, 0x3F, 0x40, 0xFF);
         int byte = below(l, 256);
 
         if (one_in(l, 3))
@@ -590,13 +590,13 @@ static int byte_at_edge(struct log *l, int refused)
     }
 }
 
-/* Settings that the twin lacks, and their neighbours, with 0x17, of which it lacks none any more. A
-   byte that was stored shows in the reads. */
+/* Settings that the twin lacks, and their neighbours, with 0x17 and 0x18, of which it lacks none any
+   more. A byte that was stored shows in the reads. */
 static void lack_scene(struct log *l)
 {
     static const struct {
         int address, refused;
-    } row[] = {{0x11, 0xE0}, {0x16, 0xF0}, {0x17, 0x00}, {0x18, 0x07}, {0x32, 0x03},
+    } row[] = {{0x11, 0xE0}, {0x16, 0xF0}, {0x17, 0x00}, {0x18, 0x00}, {0x32, 0x03},
                {0x33, 0x0B}, {0x36, 0xE7}, {0x38, 0xFF}, {0x39, 0xFF}, {0x3A, 0xFF}};
     int turns = 3 + below(l, 6);
 
@@ -930,11 +930,13 @@ static uint32_t clock_near(struct log *l, uint32_t time)
 static void set_motion(struct log *l, struct setup *s, int latch)
 {
     int n = below(l, 4);
-    int ignored = one_in(l, 3) ? below(l, 64) << 2 : 0;
+    int others = one_in(l, 3) ? below(l, 64) << 2 : 0; /* of slow motion, with which any goes */
+    int slow = one_in(l, 3) ? below(l, 8) : 0;
 
+    put_write(l, 0x18, slow);
     s->enable = one_in(l, 12) ? 0 : 1 + below(l, 7);
     s->threshold = PICK(l, 0, 1, 2, 5, 20, 100, 254, 255);
-    s->count = ignored | n;
+    s->count = others | n;
     s->latch = latch;
     put_write(l, 0x27, s->count);
     put_write(l, 0x28, s->threshold);
@@ -967,7 +969,7 @@ static void put_point(struct log *l, struct setup *s, bool over)
 {
     int chosen = below(l, AXES);
 
-    while (s->enable != 0 && !(s->enable >> chosen & 1))
+    while ((s->enable & 7) != 0 && !(s->enable >> chosen & 1))
         chosen = (chosen + 1) % AXES;
     for (int axis = X; axis < AXES; axis++) {
         bool enabled = s->enable >> axis & 1;
@@ -1103,7 +1105,7 @@ static void stir(struct log *l, struct holding *h)
     int points = 1 + below(l, h->needed + 1);
     int detector = PICK(l, 0x10, 0x20, 0x40, 0x80);
     int map = PICK(l, 0x04, 0x04, 0xFB, 0x00);
-    int other = PICK(l, 0x13, 0x17, 0x1A, 0x22, 0x26, 0x29, 0x30, 0x3E);
+    int other = PICK(l, 0x13, 0x17, 0x18, 0x1A, 0x22, 0x26, 0x29, 0x30, 0x3E);
 
     switch (below(l, 9)) {
     case 0:
@@ -1730,6 +1732,360 @@ static void g_scene(struct log *l)
     }
 }
 
+/* ---- slow motion and no-motion scene ---- */
+
+/* What is known of the status and of the waiting, to aim at the end of each. The setup has the bytes
+   of 0x18, 0x29, 0x27 and 0x21. */
+struct slow {
+    struct setup setup;
+    bool sampled; /* since the last 0x0F */
+    bool set;
+    int over, calm; /* points in a row */
+    uint32_t wait;  /* microseconds until a calm point may set no-motion */
+    uint32_t left;  /* microseconds until the status clears; 0 while it is not held for a time */
+};
+
+/* For how many microseconds no-motion waits with a byte in 0x27 that has a meaning there. */
+static uint32_t delay(int count)
+{
+    int code = count >> 2;
+    int seconds = code < 16 ? 1 + code : code < 32 ? 40 + 8 * (code - 16) : 88 + 8 * (code - 32);
+
+    return (uint32_t)seconds * 1000000;
+}
+
+static void see_slow_restart(struct slow *s)
+{
+    s->set = false;
+    s->over = s->calm = 0;
+    s->wait = delay(s->setup.count);
+    s->left = 0;
+}
+
+static void see_slow_point(struct slow *s, bool over)
+{
+    int n = (s->setup.count >> 2 & 3) + 1;
+    bool no_motion = s->setup.enable & 8;
+    bool sets, clears;
+
+    s->over = over ? s->over + 1 : 0;
+    s->calm = over ? 0 : s->calm + 1;
+    s->wait = over ? delay(s->setup.count) : s->wait;
+    sets = no_motion ? !over && s->wait == 0 : s->over >= n;
+    clears = no_motion ? over : s->calm >= n;
+    if (sets && !s->set) {
+        s->set = true;
+        s->left = hold_time(s->setup.latch);
+    } else if (clears && (s->setup.latch & 7) == 0) {
+        s->set = false;
+    }
+}
+
+/* The first sample behind 0x0F is no point, whichever is wanted. */
+static void put_slow_point(struct log *l, struct slow *s, bool over)
+{
+    put_point(l, &s->setup, over);
+    if (s->sampled && s->setup.enable & 7)
+        see_slow_point(s, over);
+    s->sampled = true;
+    if (!one_in(l, 6))
+        put_read(l, 0x09, 3);
+}
+
+static void put_slow_points(struct log *l, struct slow *s, int points, bool over)
+{
+    while (points-- > 0)
+        put_slow_point(l, s, over);
+}
+
+/* After the end of a hold the waiting takes the rest of the clock. */
+static void pass_slow_time(struct log *l, struct slow *s, uint32_t microseconds)
+{
+    put_clock(l, microseconds);
+    if (microseconds < s->left) {
+        s->left -= microseconds;
+    } else if (s->left > 0) {
+        microseconds -= s->left;
+        see_slow_restart(s);
+    }
+    s->wait = microseconds < s->wait ? s->wait - microseconds : 0;
+    if (one_in(l, 2))
+        put_read(l, 0x09, 3);
+}
+
+/* A write to 0x18 or 0x27, refused where it would bring no-motion and a code from 22 to 31 together;
+   gives whether it was accepted. */
+static bool put_joined(struct log *l, struct slow *s, int address, int byte)
+{
+    int enable = address == 0x18 ? byte & 0x0F : s->setup.enable;
+    int count = address == 0x27 ? byte : s->setup.count;
+    bool refused = enable & 8 && count >> 2 >= 22 && count >> 2 <= 31;
+
+    put_write(l, address, byte);
+    if (one_in(l, 3))
+        put_read(l, address, 1);
+    if (refused)
+        return false;
+    s->setup.enable = enable;
+    s->setup.count = count;
+    see_slow_restart(s);
+    return true;
+}
+
+/* Any of the 64 codes, or one at an end of a range of them, with any N of any-motion. */
+static int any_slow_count(struct log *l)
+{
+    int any = below(l, 64);
+    int code = PICK(l, 0, 0, 0, 1, 2, 3, 14, 15, 16, 17, 20, 21, 22, 23, 30, 31, 32, 33, 62, 63);
+    int n = below(l, 4);
+
+    return (one_in(l, 2) ? any : code) << 2 | n;
+}
+
+/* No-motion, two in three, with an axis, nine in ten; bits 7:4 are ignored. */
+static int any_slow_enable(struct log *l)
+{
+    int mode = PICK(l, 0x00, 0x08, 0x08);
+    int axes = one_in(l, 10) ? 0 : 1 + below(l, 7);
+    int ignored = one_in(l, 4) ? 0xF0 : 0;
+
+    return mode | axes | ignored;
+}
+
+static int any_slow_threshold(struct log *l)
+{
+    return PICK(l, 0, 1, 2, 5, 20, 100, 254, 255);
+}
+
+/* Any-motion on the same points. */
+static void set_beside(struct log *l, const struct slow *s)
+{
+    int axes = below(l, 8);
+    int threshold = PICK(l, s->setup.threshold, s->setup.threshold, 0, 255);
+
+    put_write(l, 0x28, threshold);
+    put_write(l, 0x16, axes);
+}
+
+/* 0x27 before 0x18, or behind it; any code goes with the slow motion that it begins with. */
+static void set_slow(struct log *l, struct slow *s)
+{
+    int range = any_range(l), count = any_slow_count(l), enable = any_slow_enable(l);
+
+    *s = (struct slow){.sampled = true};
+    for (int axis = X; axis < AXES; axis++)
+        s->setup.at[axis] = PICK(l, 0, 5, -3, 2047, -2048, 900);
+    s->setup.threshold = any_slow_threshold(l);
+    s->setup.latch = any_latch(l);
+    put_write(l, 0x18, 0x00);
+    put_write(l, 0x29, s->setup.threshold);
+    put_write(l, 0x21, s->setup.latch);
+    put_joined(l, s, 0x27, one_in(l, 2) ? count : 0);
+    if (!put_joined(l, s, 0x18, enable) || !put_joined(l, s, 0x27, count)) {
+        put_joined(l, s, 0x27, count + 0x40); /* one was refused; codes 38 to 47 have a meaning */
+        put_joined(l, s, 0x18, enable);
+    }
+    if (one_in(l, 2))
+        set_beside(l, s);
+    if (!one_in(l, 4)) {
+        put_write(l, 0x0F, range);
+        s->sampled = false;
+        see_slow_restart(s);
+    }
+}
+
+/* What restarts nothing of slow motion and no-motion. */
+static void stir_slow(struct log *l, struct slow *s)
+{
+    static const struct {
+        int address, byte;
+    } write[] = {{0x0F, 0x04}, {0x0F, 0xF0}, {0x13, 0x40}, {0x14, 0xB5}, {0x16, 0x07}, {0x16, 0x01},
+                 {0x16, 0x00}, {0x16, 0x87}, {0x17, 0x7F}, {0x17, 0x00}, {0x19, 0x08}, {0x19, 0xF7},
+                 {0x1B, 0x08}, {0x1B, 0xF7}, {0x1E, 0x08}, {0x20, 0x0A}, {0x20, 0x05}, {0x22, 0x00},
+                 {0x23, 0xFF}, {0x24, 0x00}, {0x25, 0x00}, {0x26, 0x00}, {0x28, 0x00}, {0x28, 0x01},
+                 {0x28, 0xFF}, {0x2A, 0x00}, {0x30, 0x01}, {0x38, 0x01}, {0x3E, 0x80}, {0x3E, 0xC0},
+                 {0x58, 0x09}, {0x67, 0x00}};
+    int chosen = below(l, sizeof write / sizeof *write);
+    int refused = 22 + below(l, 10);
+
+    switch (below(l, 9)) {
+    case 0:
+        put_outside_sample(l);
+        break;
+    case 1:
+        put_cycle_start(l);
+        break;
+    case 2:
+        put_clock(l, 0);
+        break;
+    case 3:
+    case 4:
+        if (s->setup.enable & 8)
+            put_joined(l, s, 0x27, refused << 2);
+        else if (s->setup.count >> 2 >= 22 && s->setup.count >> 2 <= 31)
+            put_joined(l, s, 0x18, 0x08 | s->setup.enable);
+        break;
+    default:
+        put_write(l, write[chosen].address, write[chosen].byte);
+        break;
+    }
+    put_read(l, 0x09, 3);
+}
+
+/* What clears the status, and begins its runs and its waiting anew. */
+static void restart_slow(struct log *l, struct slow *s)
+{
+    bool other = one_in(l, 2);
+    int range = any_range(l), count = any_slow_count(l), enable = any_slow_enable(l);
+    int threshold = any_slow_threshold(l), latch = any_latch(l);
+
+    switch (below(l, 6)) {
+    case 0:
+        put_write(l, 0x0F, range);
+        s->sampled = false;
+        break;
+    case 1:
+        put_joined(l, s, 0x18, other ? enable : s->setup.enable);
+        put_read(l, 0x09, 3);
+        return;
+    case 2:
+        put_joined(l, s, 0x27, other ? count : s->setup.count);
+        put_read(l, 0x09, 3);
+        return;
+    case 3:
+        s->setup.latch = other ? latch : s->setup.latch;
+        put_write(l, 0x21, s->setup.latch);
+        break;
+    case 4:
+        s->setup.threshold = other ? threshold : s->setup.threshold;
+        put_write(l, 0x29, s->setup.threshold);
+        break;
+    case 5:
+        put_write(l, 0x14, 0xB6);
+        put_read(l, 0x09, 3);
+        set_slow(l, s);
+        return;
+    }
+    see_slow_restart(s);
+    put_read(l, 0x09, 3);
+}
+
+/* Lets so much time pass, in one event or in more, with points and others between. */
+static void spend_slow(struct log *l, struct slow *s, uint32_t time)
+{
+    int cuts = PICK(l, 0, 0, 1, 1, 2, 4);
+
+    while (cuts-- > 0) {
+        uint32_t any = (uint32_t)(draw(l) % ((uint64_t)time + 1));
+        uint32_t part = time > 0 && one_in(l, 4) ? 1 : one_in(l, 4) ? time : any;
+
+        pass_slow_time(l, s, part);
+        time -= part;
+        if (one_in(l, 2))
+            put_slow_point(l, s, false);
+        if (one_in(l, 12))
+            put_slow_point(l, s, true);
+        if (one_in(l, 4))
+            stir_slow(l, s);
+        if (one_in(l, 24))
+            restart_slow(l, s);
+    }
+    pass_slow_time(l, s, time);
+}
+
+/* Over the end of the waiting by single steps, with a calm point at each. */
+static void step_over_wait(struct log *l, struct slow *s)
+{
+    put_slow_point(l, s, false);
+    if (s->wait == 0 || one_in(l, 4))
+        return;
+    pass_slow_time(l, s, s->wait - 1);
+    put_slow_point(l, s, false);
+    if (s->wait > 0)
+        pass_slow_time(l, s, s->wait);
+    put_slow_point(l, s, false);
+}
+
+/* The waiting up to just before, at or just behind its time. */
+static void wait_once(struct log *l, struct slow *s)
+{
+    uint32_t aim = clock_near(l, s->wait);
+
+    if (!one_in(l, 3))
+        put_slow_point(l, s, false);
+    spend_slow(l, s, aim);
+    step_over_wait(l, s);
+    if (one_in(l, 2))
+        put_slow_point(l, s, true);
+}
+
+/* The end of a hold, or of the waiting that begins there, mostly in the same clock. */
+static void end_slow_hold(struct log *l, struct slow *s)
+{
+    uint32_t rest = one_in(l, 3) ? 0 : delay(s->setup.count);
+    uint32_t aim = clock_near(l, s->left + rest);
+
+    if (one_in(l, 3))
+        put_slow_point(l, s, one_in(l, 2));
+    spend_slow(l, s, aim);
+    step_over_wait(l, s);
+}
+
+/* Fewer over points than N, as many or more, and the same of calm points. */
+static void count_once(struct log *l, struct slow *s)
+{
+    int n = (s->setup.count >> 2 & 3) + 1;
+    int over = n - 1 + below(l, 3), calm = n - 1 + below(l, 3);
+
+    put_slow_points(l, s, over, true);
+    if (one_in(l, 4))
+        stir_slow(l, s);
+    put_slow_points(l, s, calm, false);
+}
+
+static void slow_scene(struct log *l)
+{
+    struct slow s;
+    int turns = 2 + below(l, 4);
+
+    set_slow(l, &s);
+    if (one_in(l, 2)) {
+        int map = PICK(l, 0x08, 0x08, 0xF7, 0x0C);
+
+        put_write(l, 0x19, map);
+        put_write(l, 0x1B, ~map);
+    }
+    while (turns-- > 0) {
+        if (s.left > 0 && !one_in(l, 4))
+            end_slow_hold(l, &s);
+        else if (s.setup.enable & 8)
+            wait_once(l, &s);
+        else
+            count_once(l, &s);
+        if (one_in(l, 6))
+            restart_slow(l, &s);
+    }
+}
+
+/* Any writes to 0x18 and 0x27 in any order, refused where both would have no meaning together. */
+static void joined_scene(struct log *l)
+{
+    int writes = 4 + below(l, 8);
+
+    while (writes-- > 0) {
+        int enable = any_slow_enable(l), count = any_slow_count(l);
+        bool codes = one_in(l, 2);
+
+        if (codes)
+            put_write(l, 0x27, count);
+        else
+            put_write(l, 0x18, enable);
+        if (one_in(l, 2))
+            put_read(l, codes ? 0x27 : 0x18, 1);
+    }
+    look(l);
+}
+
 /* Sets the data interrupt and looks at it around samples, cycle starts, clocks and its enable
    bit. */
 static void data_scene(struct log *l)
@@ -1763,7 +2119,7 @@ static void data_scene(struct log *l)
 
 /* ---- the last scene: only the pins at the end are printed ---- */
 
-enum { PIN_RECORDS = 19 }; /* beside the samples */
+enum { PIN_RECORDS = 23 }; /* beside the samples */
 
 static void set_pins(struct log *l)
 {
@@ -1774,7 +2130,7 @@ static void set_pins(struct log *l)
 
         if (one_in(l, 2)) /* few bits, so that one status alone decides a pin */
             byte = address[i] == 0x1A ? PICK(l, 0x01, 0x02, 0x04, 0x80, 0x40, 0x20, 0x22, 0x42)
-                                      : PICK(l, 0x00, 0x04, 0xFB, 0x01, 0xFE, 0x02, 0xFD);
+                                      : PICK(l, 0x00, 0x04, 0xFB, 0x01, 0xFE, 0x02, 0xFD, 0x08, 0xF7);
         put_write(l, address[i], byte);
     }
 }
@@ -1790,13 +2146,25 @@ static void set_easy_g(struct log *l)
     put_write(l, 0x26, high);
 }
 
+/* No-motion after its shortest time, or just before it. */
+static void put_rest(struct log *l)
+{
+    static const int still[AXES] = {1, -2, 3};
+    uint32_t wait = clock_near(l, 1000000);
+
+    put_sample(l, still);
+    put_clock(l, wait);
+    put_sample(l, still);
+}
+
 static void pins_scene(struct log *l, int fill)
 {
     int mode = any_fifo_mode(l);
     int detectors = one_in(l, 2) ? below(l, 16) : 0;
     int enable = (one_in(l, 3) ? 0x40 : below(l, 8) << 4) | detectors;
     int axes = below(l, 8);
-    int n = PICK(l, 0, 0, 1, 3);
+    int slow = one_in(l, 2) ? below(l, 16) : 0;
+    int n = slow & 8 ? below(l, 4) : PICK(l, 0, 0, 1, 3, 4, 12);
     int latch = any_latch(l);
     uint32_t microseconds = clock_near(l, hold_time(latch));
     int level = level_near(l, least(fill, depth(mode)));
@@ -1809,6 +2177,7 @@ static void pins_scene(struct log *l, int fill)
     put_write(l, 0x27, n);
     put_write(l, 0x21, latch);
     put_write(l, 0x16, axes);
+    put_write(l, 0x18, slow);
     if (detectors != 0)
         set_easy_g(l);
     while (fill-- > 0)
@@ -1819,6 +2188,8 @@ static void pins_scene(struct log *l, int fill)
         put_clock(l, run);
         put_any_sample(l);
     }
+    if (slow & 8)
+        put_rest(l);
     if (one_in(l, 2))
         put_clock(l, microseconds);
     if (one_in(l, 3))
@@ -1836,6 +2207,7 @@ static void any_scene(struct log *l)
         corner_scene, write_scene, write_scene,     sweep_scene,     lack_scene,  range_scene,
         data_scene,   set_pins,    motion_scene,    motion_scene,    latch_scene, latch_scene,
         mode_scene,   mode_scene,  g_scene,         g_scene,         g_scene,     g_scene,
+        slow_scene,   slow_scene,  slow_scene,      slow_scene,      slow_scene,  joined_scene,
     };
 
     if (one_in(l, 16))

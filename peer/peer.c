@@ -21,6 +21,7 @@ enum {
     SOFT_RESET = 0x14,
     ENABLE_MOTION = 0x16,
     ENABLE_DATA = 0x17, /* and low-g and high-g */
+    ENABLE_SLOW = 0x18, /* axes of slow motion or no-motion */
     MAP_INT1 = 0x19,
     MAP_DATA = 0x1A,
     MAP_INT2 = 0x1B,
@@ -31,8 +32,9 @@ enum {
     G_MODE = 0x24, /* sum mode of low-g and both hystereses */
     HIGH_DURATION = 0x25,
     HIGH_THRESHOLD = 0x26,
-    MOTION_COUNT = 0x27,
+    MOTION_COUNT = 0x27, /* and N of slow motion, or the delay of no-motion */
     MOTION_THRESHOLD = 0x28,
+    SLOW_THRESHOLD = 0x29,
     WATERMARK_LEVEL = 0x30,
     KEPT_3B = 0x3B,
     KEPT_3C = 0x3C,
@@ -41,13 +43,16 @@ enum {
 };
 
 /* Bits of 0x09, and of its maps 0x19 and 0x1B. */
-enum { MOTION = 0x04, HIGH = 0x02, LOW = 0x01 };
+enum { SLOW = 0x08, MOTION = 0x04, HIGH = 0x02, LOW = 0x01 };
 
 /* Bits of 0x0A. */
 enum { DATA = 0x80, WATERMARK = 0x40, FULL = 0x20 };
 
 /* Bits of 0x17. */
 enum { ENABLE_LOW = 0x08, ENABLE_HIGH = 0x07 };
+
+/* Bits of 0x18, and the axes of 0x16 too. */
+enum { NO_MOTION = 0x08, ENABLE_AXES = 0x07 };
 
 enum { MODE_BITS = 0xC0, BYPASS = 0x00, FIFO = 0x40 };
 
@@ -91,6 +96,29 @@ static bool non_latched(const struct peer *t)
 static const uint8_t range_factor[0x10] = {
     [0x3] = 1, [0x5] = 2, [0x8] = 4, [0xC] = 8 /* 2, 4, 8 and 16 g */
 };
+
+/* For how many seconds no-motion waits with each code of 0x27, its bits 7:2; 0 for the codes that
+   have no meaning there. */
+static uint32_t delay_seconds(uint8_t byte)
+{
+    uint32_t code = byte >> 2;
+
+    if (code <= 15)
+        return code + 1;
+    if (code <= 21)
+        return 40 + 8 * (code - 16);
+    return code <= 31 ? 0 : 88 + 8 * (code - 32);
+}
+
+/* The first enabled axis whose size is above a level, or PEER_AXES where there is none. */
+static int first_above(unsigned enabled, const int value[PEER_AXES], int level)
+{
+    int axis = 0;
+
+    while (axis < PEER_AXES && !(enabled >> axis & 1 && abs(value[axis]) > level))
+        axis++;
+    return axis;
+}
 
 /* ---- power-up and soft reset ---- */
 
@@ -168,8 +196,9 @@ static void read_fifo(struct peer *t, uint8_t *buffer, size_t length)
     memset(buffer, 0, length);
 }
 
-/* ---- any-motion ---- */
+/* ---- any-motion, slow motion and no-motion ---- */
 
+/* The sign stays. */
 static void clear_motion(struct peer_motion *m)
 {
     m->status = false;
@@ -179,25 +208,38 @@ static void clear_motion(struct peer_motion *m)
     m->left = 0;
 }
 
-static void over_point(struct peer *t, unsigned n, int axis, bool negative)
+/* The waiting of no-motion begins anew. */
+static void begin_wait(struct peer *t)
 {
-    struct peer_motion *m = &t->motion;
+    t->slow.wait = delay_seconds(t->reg[MOTION_COUNT]) * 1000000;
+}
 
+static void restart_slow(struct peer *t)
+{
+    clear_motion(&t->slow);
+    begin_wait(t);
+}
+
+static void set_motion(const struct peer *t, struct peer_motion *m)
+{
+    m->status = true;
+    m->left = hold_time[t->reg[LATCH]];
+}
+
+/* Gives whether it sets the status. */
+static bool over_point(const struct peer *t, struct peer_motion *m, unsigned n)
+{
     m->calm_run = 0;
     if (m->over_run < n)
         m->over_run++;
-    if (m->over_run == n && !m->status) {
-        m->status = true;
-        m->marks = (uint8_t)(1 << axis);
-        m->negative = negative;
-        m->left = hold_time[t->reg[LATCH]];
-    }
+    if (m->over_run < n || m->status)
+        return false;
+    set_motion(t, m);
+    return true;
 }
 
-static void calm_point(struct peer *t, unsigned n)
+static void calm_point(const struct peer *t, struct peer_motion *m, unsigned n)
 {
-    struct peer_motion *m = &t->motion;
-
     m->over_run = 0;
     if (m->calm_run < n)
         m->calm_run++;
@@ -207,33 +249,69 @@ static void calm_point(struct peer *t, unsigned n)
     }
 }
 
-static void judge_point(struct peer *t, const int difference[PEER_AXES])
-{
-    unsigned enabled = t->reg[ENABLE_MOTION] & 7;
-    unsigned n = (t->reg[MOTION_COUNT] & 3) + 1u;
-    int threshold = 4 * t->reg[MOTION_THRESHOLD];
-
-    for (int axis = 0; axis < PEER_AXES; axis++)
-        if (enabled >> axis & 1 && abs(difference[axis]) > threshold) {
-            over_point(t, n, axis, difference[axis] < 0);
-            return;
-        }
-    calm_point(t, n);
-}
-
-static void any_motion(struct peer *t, const int sample[PEER_AXES])
+static void any_motion(struct peer *t, const int difference[PEER_AXES])
 {
     struct peer_motion *m = &t->motion;
-    bool first = !m->has_previous;
+    unsigned n = (t->reg[MOTION_COUNT] & 3) + 1u;
+    int axis = first_above(t->reg[ENABLE_MOTION], difference, 4 * t->reg[MOTION_THRESHOLD]);
+
+    if (axis == PEER_AXES) {
+        calm_point(t, m, n);
+    } else if (over_point(t, m, n)) {
+        m->marks = (uint8_t)(1 << axis);
+        m->negative = difference[axis] < 0;
+    }
+}
+
+static void slow_motion(struct peer *t, bool over)
+{
+    unsigned n = (t->reg[MOTION_COUNT] >> 2 & 3) + 1u;
+
+    if (over)
+        over_point(t, &t->slow, n);
+    else
+        calm_point(t, &t->slow, n);
+}
+
+static void no_motion(struct peer *t, bool over)
+{
+    struct peer_motion *m = &t->slow;
+
+    if (over) {
+        begin_wait(t);
+        if (non_latched(t))
+            m->status = false;
+    } else if (m->wait == 0 && !m->status) {
+        set_motion(t, m);
+    }
+}
+
+static void slow_or_no_motion(struct peer *t, const int difference[PEER_AXES])
+{
+    int level = 4 * t->reg[SLOW_THRESHOLD];
+    bool over = first_above(t->reg[ENABLE_SLOW], difference, level) < PEER_AXES;
+
+    if (t->reg[ENABLE_SLOW] & NO_MOTION)
+        no_motion(t, over);
+    else
+        slow_motion(t, over);
+}
+
+/* The first sample gives no point, nor does any while no axis is enabled. */
+static void take_point(struct peer *t, const int sample[PEER_AXES])
+{
+    bool first = !t->has_previous;
     int difference[PEER_AXES];
 
     for (int axis = 0; axis < PEER_AXES; axis++) {
-        difference[axis] = sample[axis] - m->previous[axis];
-        m->previous[axis] = (int16_t)sample[axis];
+        difference[axis] = sample[axis] - t->previous[axis];
+        t->previous[axis] = (int16_t)sample[axis];
     }
-    m->has_previous = true;
-    if (!first && t->reg[ENABLE_MOTION] & 7)
-        judge_point(t, difference);
+    t->has_previous = true;
+    if (!first && t->reg[ENABLE_MOTION] & ENABLE_AXES)
+        any_motion(t, difference);
+    if (!first && t->reg[ENABLE_SLOW] & ENABLE_AXES)
+        slow_or_no_motion(t, difference);
 }
 
 /* ---- low-g and high-g ---- */
@@ -304,26 +382,16 @@ static void low_g(struct peer *t, const int size[PEER_AXES])
         g_pause(t, &t->low, counts_at_2_g >= threshold + hysteresis);
 }
 
-/* The first enabled axis above a level, or PEER_AXES where there is none. */
-static int first_above(const struct peer *t, const int size[PEER_AXES], int level)
-{
-    int axis = 0;
-
-    while (axis < PEER_AXES && !(t->reg[ENABLE_DATA] >> axis & 1 && size[axis] > level))
-        axis++;
-    return axis;
-}
-
 static void high_g(struct peer *t, const int sample[PEER_AXES], const int size[PEER_AXES])
 {
     struct peer_g_detector *g = &t->high;
     int threshold = 8 * t->reg[HIGH_THRESHOLD];
     int hysteresis = 128 * (t->reg[G_MODE] >> 6);
     int level = threshold > hysteresis ? threshold - hysteresis : 0;
-    int axis = first_above(t, size, threshold);
+    int axis = first_above(t->reg[ENABLE_DATA], size, threshold);
 
     if (axis == PEER_AXES) {
-        g_pause(t, g, first_above(t, size, level) == PEER_AXES);
+        g_pause(t, g, first_above(t->reg[ENABLE_DATA], size, level) == PEER_AXES);
     } else if (g_sample(t, g, t->reg[HIGH_DURATION])) {
         g->marks = (uint8_t)(1 << axis);
         g->negative = sample[axis] < 0;
@@ -348,8 +416,14 @@ static enum peer_answer refuse_bits(uint8_t byte, uint8_t lacking, enum peer_ans
     return byte & lacking ? number : PEER_DONE;
 }
 
+/* For what 0x18 and 0x27 would hold: no-motion and a code that has no meaning there. */
+static enum peer_answer refuse_together(uint8_t enable, uint8_t count)
+{
+    return enable & NO_MOTION && delay_seconds(count) == 0 ? PEER_RESERVED_CODE : PEER_DONE;
+}
+
 /* The number with which a write is refused, or PEER_DONE. It looks at the byte before the mask. */
-static enum peer_answer refuse_write(uint8_t address, uint8_t byte)
+static enum peer_answer refuse_write(const struct peer *t, uint8_t address, uint8_t byte)
 {
     switch (address) {
     case RANGE:
@@ -360,8 +434,10 @@ static enum peer_answer refuse_write(uint8_t address, uint8_t byte)
         return refuse_bits(byte, 0xE0, PEER_NO_POWER_MODE);
     case ENABLE_MOTION:
         return refuse_bits(byte, 0xF0, PEER_NO_DETECTOR);
-    case 0x18:
-        return refuse_bits(byte, 0x07, PEER_NO_DETECTOR);
+    case ENABLE_SLOW:
+        return refuse_together(byte, t->reg[MOTION_COUNT]);
+    case MOTION_COUNT:
+        return refuse_together(t->reg[ENABLE_SLOW], byte);
     case 0x32:
         return refuse_bits(byte, 0x03, PEER_NO_TEST_OR_TRIM);
     case 0x33:
@@ -377,23 +453,26 @@ static enum peer_answer refuse_write(uint8_t address, uint8_t byte)
     }
 }
 
-/* What an accepted write does beside storing its byte. */
-static void act_on_write(struct peer *t, uint8_t address, uint8_t byte)
+static void restart_detectors(struct peer *t, uint8_t address)
 {
     switch (address) {
     case RANGE:
-        t->motion.has_previous = false;
-        clear_motion(&t->motion);
-        restart_g(t);
-        break;
     case LATCH:
         clear_motion(&t->motion);
+        restart_slow(t);
         restart_g(t);
         break;
-    case ENABLE_MOTION:
     case MOTION_COUNT:
+        clear_motion(&t->motion);
+        restart_slow(t);
+        break;
+    case ENABLE_MOTION:
     case MOTION_THRESHOLD:
         clear_motion(&t->motion);
+        break;
+    case ENABLE_SLOW:
+    case SLOW_THRESHOLD:
+        restart_slow(t);
         break;
     case ENABLE_DATA:
     case LOW_DURATION:
@@ -402,6 +481,17 @@ static void act_on_write(struct peer *t, uint8_t address, uint8_t byte)
     case HIGH_DURATION:
     case HIGH_THRESHOLD:
         restart_g(t);
+        break;
+    }
+}
+
+/* What an accepted write does beside storing its byte. */
+static void act_on_write(struct peer *t, uint8_t address, uint8_t byte)
+{
+    restart_detectors(t, address);
+    switch (address) {
+    case RANGE:
+        t->has_previous = false;
         break;
     case SHADOW:
         if (byte & 0x40)
@@ -424,7 +514,7 @@ enum peer_answer peer_write(struct peer *t, uint8_t address, uint8_t byte)
 
     if (address >= PEER_REGISTERS)
         return PEER_WRONG_ADDRESS;
-    refusal = refuse_write(address, byte);
+    refusal = refuse_write(t, address, byte);
     if (refusal != PEER_DONE)
         return refusal;
     mask = row[address].mask;
@@ -467,8 +557,8 @@ static bool watermark_reached(const struct peer *t)
 /* The byte of 0x09. */
 static uint8_t status_motion(const struct peer *t)
 {
-    return (uint8_t)((t->motion.status ? MOTION : 0) | (t->high.status ? HIGH : 0) |
-                     (t->low.status ? LOW : 0));
+    return (uint8_t)((t->slow.status ? SLOW : 0) | (t->motion.status ? MOTION : 0) |
+                     (t->high.status ? HIGH : 0) | (t->low.status ? LOW : 0));
 }
 
 /* The byte of 0x0A. */
@@ -551,7 +641,7 @@ enum peer_answer peer_sample(struct peer *t, int x, int y, int z, uint8_t temper
     t->reg[TEMPERATURE] = temperature;
     t->fresh_data = true;
     put_frame(t);
-    any_motion(t, sample);
+    take_point(t, sample);
     if (t->reg[ENABLE_DATA] & (ENABLE_LOW | ENABLE_HIGH))
         low_and_high_g(t, sample);
     return PEER_DONE;
@@ -579,6 +669,20 @@ static void pass_time(struct peer_g_detector *g, uint32_t microseconds)
         clear_g(g);
 }
 
+/* After the end of a temporary status the waiting takes the rest of the clock. */
+static void pass_slow_time(struct peer *t, uint32_t microseconds)
+{
+    struct peer_motion *m = &t->slow;
+
+    if (microseconds < m->left) {
+        m->left -= microseconds;
+    } else if (m->left > 0) {
+        microseconds -= m->left;
+        restart_slow(t);
+    }
+    m->wait = less(m->wait, microseconds);
+}
+
 /* Where no temporary status is set, the runs of any-motion and all else stay. */
 enum peer_answer peer_clock(struct peer *t, uint32_t microseconds)
 {
@@ -588,6 +692,8 @@ enum peer_answer peer_clock(struct peer *t, uint32_t microseconds)
         m->left -= microseconds;
     else if (m->left > 0)
         clear_motion(m);
+    if (t->reg[ENABLE_SLOW] & ENABLE_AXES)
+        pass_slow_time(t, microseconds);
     if (t->reg[ENABLE_DATA] & (ENABLE_LOW | ENABLE_HIGH)) {
         pass_time(&t->low, microseconds);
         pass_time(&t->high, microseconds);

@@ -1,6 +1,6 @@
 /* A twin of the BMA255 accelerometer: registers 0x00 to 0x3F, three data channels, the FIFO, the
-   detectors of any-motion, low-g and high-g with their latch times and both interrupt pins. Plain
-   C11, no heap, updated in place.
+   detectors of any-motion, slow motion or no-motion, low-g and high-g with their latch times and
+   both interrupt pins. Plain C11, no heap, updated in place.
 
    The caller owns a struct peer and starts it with peer_power_up(); the fields are not for use
    outside peer.c. Each event gives back one of the numbers below; a number other than PEER_DONE
@@ -33,7 +33,7 @@ enum peer_answer {
     PEER_WRONG_VERSION = 7,     /* log version byte not 1 */
     PEER_WRONG_RECORD = 8,      /* record length or kind wrong */
     PEER_LOG_CUT = 9,           /* log cut, or empty */
-    PEER_NO_DETECTOR = 11,      /* a detector bit in 0x16 or 0x18 */
+    PEER_NO_DETECTOR = 11,      /* a detector bit in 0x16 */
     PEER_NO_POWER_MODE = 12,    /* a power mode in 0x11 */
     PEER_NO_TEST_OR_TRIM = 13   /* self-test, memory, calibration or offset in 0x32, 0x33, 0x36,
                                    0x38 to 0x3A */
@@ -52,14 +52,14 @@ struct peer_fifo {
     bool overrun;
 };
 
+/* Any-motion, or slow motion and no-motion. */
 struct peer_motion {
-    int16_t previous[PEER_AXES]; /* the sample before, if there is one */
-    bool has_previous;
-    bool status;      /* 0x09 bit 2 */
-    uint8_t marks;    /* 0x0B bits 2:0 */
-    bool negative;    /* 0x0B bit 3 */
-    uint8_t over_run; /* over points in a row, counted up to N */
-    uint8_t calm_run; /* calm points in a row, counted up to N */
+    bool status;      /* 0x09 bit 2 of any-motion, bit 3 of the other */
+    uint8_t marks;    /* 0x0B bits 2:0 of any-motion, 0 of the other */
+    bool negative;    /* 0x0B bit 3 of any-motion, false of the other */
+    uint8_t over_run; /* over points in a row, counted up to N; 0 of no-motion */
+    uint8_t calm_run; /* calm points in a row, counted up to N; 0 of no-motion */
+    uint32_t wait;    /* microseconds until a calm point may set no-motion */
     uint32_t left;    /* microseconds until a temporary status clears; 0 while there is none */
 };
 
@@ -79,7 +79,9 @@ struct peer {
     bool locked[PEER_AXES];
     bool fresh_data; /* a sample came since the last cycle start or reset */
     struct peer_fifo fifo;
-    struct peer_motion motion;
+    int16_t previous[PEER_AXES]; /* the sample before, if there is one */
+    bool has_previous;
+    struct peer_motion motion, slow;
     struct peer_g_detector low, high;
 };
 
