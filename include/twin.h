@@ -26,16 +26,18 @@
  * added or what was refused is done, the first where a caller may have to be changed. The first is in the library's symbols, so that what
  * was compiled with a header of another one does not link.
  *
- * Since 4.2 there are low-g and high-g: 0x17 takes any byte, of which 4.1 refused those with a 1 in bits 3:0 as TWIN_NO_DETECTOR; a caller
- * that writes none of these is answered as before. Since 4.1.1 a buffer that overlaps the record is TWIN_BAD_BUFFER whatever its length is;
- * 4.1.0 passed over those above TWIN_LONGEST_READ. Since 4.1 the symbols have it, and the library itself looks at what it is handed, also
- * for a caller without this header; there is a shared library. In 4.0 this header looked: what was compiled with it is compiled anew, as it
- * is. Since 4 there is a clock: twin_event takes microseconds, and 0x21 takes a latch time. Since 3 the watermark stays 1 above its level;
- * 2 showed it at the level alone. */
+ * Since 4.3 there are slow motion and no-motion: 0x18 takes the bytes with a 1 in bits 2:0, which 4.2 refused as TWIN_NO_DETECTOR. In turn
+ * the write to 0x18 or 0x27 that would bring bit 3 of 0x18 and a code 22 to 31 in bits 7:2 of 0x27 together is TWIN_RESERVED_CODE; 4.2
+ * stored both, without effect. A caller that writes neither is answered as before. Since 4.2 there are low-g and high-g: 0x17 takes any
+ * byte, of which 4.1 refused those with a 1 in bits 3:0 as TWIN_NO_DETECTOR; a caller that writes none of these is answered as before. Since
+ * 4.1.1 a buffer that overlaps the record is TWIN_BAD_BUFFER whatever its length is; 4.1.0 passed over those above TWIN_LONGEST_READ. Since
+ * 4.1 the symbols have it, and the library itself looks at what it is handed, also for a caller without this header; there is a shared
+ * library. In 4.0 this header looked: what was compiled with it is compiled anew, as it is. Since 4 there is a clock: twin_event takes
+ * microseconds, and 0x21 takes a latch time. Since 3 the watermark stays 1 above its level; 2 showed it at the level alone. */
 #define TWIN_VERSION_MAJOR 4
-#define TWIN_VERSION_MINOR 2
+#define TWIN_VERSION_MINOR 3
 #define TWIN_VERSION_PATCH 0
-#define TWIN_VERSION "4.2.0"
+#define TWIN_VERSION "4.3.0"
 
 #ifdef __cplusplus
 extern "C" {
@@ -48,12 +50,12 @@ extern "C" {
 enum twin_answer {
     TWIN_DONE = 0,             /* done, or a write that the chip ignores */
     TWIN_NO_ADDRESS = 1,       /* address above 0x3F */
-    TWIN_RESERVED_CODE = 2,    /* write of a code that the sheet reserves */
+    TWIN_RESERVED_CODE = 2,    /* write of a code that the sheet reserves, or that would join no-motion in 0x18 and a code 22 to 31 in 0x27 */
     TWIN_OUT_OF_RANGE = 4,     /* x, y or z outside -2048..2047 */
     TWIN_BAD_LENGTH = 5,       /* read length 0 or above 192 */
     TWIN_PAST_END = 6,         /* read starting below 0x3F that would pass 0x3E */
     TWIN_NO_KIND = 8,          /* a kind of event that does not exist */
-    TWIN_NO_DETECTOR = 11,     /* write of a detector bit in 0x16 or 0x18 */
+    TWIN_NO_DETECTOR = 11,     /* write of a detector bit in 0x16 */
     TWIN_NO_POWER_MODE = 12,   /* write of a power mode in 0x11 */
     TWIN_NO_TEST_OR_TRIM = 13, /* write of self-test, memory, calibration or offset in 0x32, 0x33, 0x36, 0x38 to 0x3A */
     /* for a call that is no event at all; these are looked at first */

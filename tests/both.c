@@ -17,8 +17,8 @@ static unsigned below(unsigned n) {
 
 /* one of the registers that do something, or any byte */
 static uint8_t an_address(void) {
-    static const uint8_t busy[] = {0x0F, 0x13, 0x14, 0x16, 0x17, 0x19, 0x1A, 0x1B, 0x20, 0x21,
-                                   0x22, 0x23, 0x24, 0x25, 0x26, 0x27, 0x28, 0x30, 0x3E};
+    static const uint8_t busy[] = {0x0F, 0x13, 0x14, 0x16, 0x17, 0x18, 0x19, 0x1A, 0x1B, 0x20, 0x21,
+                                   0x22, 0x23, 0x24, 0x25, 0x26, 0x27, 0x28, 0x29, 0x30, 0x3E};
     return below(4) ? busy[below(sizeof busy)] : (uint8_t)below(below(8) ? 0x41 : 0x100);
 }
 
@@ -34,11 +34,15 @@ static uint8_t a_byte(uint8_t address) {
     if (below(3) == 0) return (uint8_t)below(0x100);
     switch (address) {
     case 0x17: return (uint8_t)below(0x80);                /* which statuses are enabled, of 0x0A and of low-g and high-g */
+    case 0x18: return (uint8_t)below(16);                  /* the axes of slow motion, or of no-motion */
+    case 0x19:
+    case 0x1B: return (uint8_t)below(16);                  /* which of them show at a pin */
     case 0x22:
     case 0x25: return (uint8_t)below(2);                   /* a run of 2 or 4 ms */
     case 0x23:
     case 0x26: return (uint8_t)(below(4) ? 1 + below(2) : below(2) ? 0 : 0xFF); /* 8 or 16 counts, none, or nearly all */
     case 0x24: return (uint8_t)below(0x100);               /* both hystereses and the mode of low-g */
+    case 0x27: return (uint8_t)(below(8) ? below(16) : 0x50 + below(0x34)); /* a wait up to 4 s, or one around the codes that have none */
     case 0x30: return (uint8_t)below(below(2) ? 5 : 35);   /* a level that few frames reach, or one up to 34 */
     case 0x3E: return (uint8_t)(below(3) << 6 | below(4)); /* a mode, and the axes of a frame */
     case 0x21: return (uint8_t)(below(2) ? below(16) : below(2) << 3); /* any code, or non-latched */
@@ -66,10 +70,10 @@ static bool sample_both(void) {
     return twin_sample(&twin, x, y, z, temperature) == (uint8_t)peer_sample(&peer, x, y, z, temperature);
 }
 
-/* a latch time, that of a run of low-g or high-g or some microseconds around it, a part of one, or anything in 32 bits */
+/* a latch time or a wait, the time of a run of low-g or high-g or some microseconds around it, a part of one, or anything in 32 bits */
 static uint32_t a_time(void) {
     static const uint32_t times[] = {250,     500,     1000,    12500, 25000, 50000, 250000, 500000, 1000000,
-                                     2000000, 4000000, 8000000, 2000,  2000,  4000,  4000,   6000,   512000};
+                                     2000000, 3000000, 4000000, 8000000, 2000, 2000, 4000,  4000,   6000,   512000};
     uint32_t time = times[below(sizeof times / sizeof *times)];
     if (below(40) == 0) return (uint32_t)(below(0x10000) << 16 | below(0x10000));
     return below(2) ? time + below(3) - 1 : below(time);

@@ -83,9 +83,9 @@ static void written(struct twin *twin, uint8_t address, int byte, uint8_t answer
 static void lacking(struct twin *twin) {
     static const struct {
         uint8_t address, bits, answer;
-    } lacks[] = {{0x11, 0xE0, TWIN_NO_POWER_MODE},   {0x16, 0xF0, TWIN_NO_DETECTOR},     {0x18, 0x07, TWIN_NO_DETECTOR},
-                 {0x32, 0x03, TWIN_NO_TEST_OR_TRIM}, {0x33, 0x0B, TWIN_NO_TEST_OR_TRIM}, {0x36, 0xE7, TWIN_NO_TEST_OR_TRIM},
-                 {0x38, 0xFF, TWIN_NO_TEST_OR_TRIM}, {0x39, 0xFF, TWIN_NO_TEST_OR_TRIM}, {0x3A, 0xFF, TWIN_NO_TEST_OR_TRIM}};
+    } lacks[] = {{0x11, 0xE0, TWIN_NO_POWER_MODE},   {0x16, 0xF0, TWIN_NO_DETECTOR},     {0x32, 0x03, TWIN_NO_TEST_OR_TRIM},
+                 {0x33, 0x0B, TWIN_NO_TEST_OR_TRIM}, {0x36, 0xE7, TWIN_NO_TEST_OR_TRIM}, {0x38, 0xFF, TWIN_NO_TEST_OR_TRIM},
+                 {0x39, 0xFF, TWIN_NO_TEST_OR_TRIM}, {0x3A, 0xFF, TWIN_NO_TEST_OR_TRIM}};
     for (int byte = 0; byte < 256; byte++)
         for (size_t i = 0; i < sizeof lacks / sizeof lacks[0]; i++)
             written(twin, lacks[i].address, byte, byte & lacks[i].bits ? lacks[i].answer : (uint8_t)TWIN_DONE);
@@ -148,6 +148,61 @@ static void falls_and_hits(struct twin *twin) {
     }
 }
 
+/* every byte to 0x18 with each code of 0x27, in both orders: the first write is done, the second refused where it would join no-motion and a
+ * code 22 to 31 */
+static void joined(struct twin *twin) {
+    for (int choice = 0; choice < 256; choice++)
+        for (int code = 0; code < 64; code++) {
+            uint8_t second = (choice & 8) != 0 && code >= 22 && code <= 31 ? TWIN_RESERVED_CODE : TWIN_DONE;
+            HOLDS(twin_power_up(twin) == TWIN_DONE && twin_write(twin, 0x18, (uint8_t)choice) == TWIN_DONE);
+            written(twin, 0x27, 4 * code + choice % 4, second);
+            HOLDS(twin_power_up(twin) == TWIN_DONE && twin_write(twin, 0x27, (uint8_t)(4 * code + choice % 4)) == TWIN_DONE);
+            written(twin, 0x18, choice, second);
+        }
+}
+
+/* a chip with these bytes in 0x18 and 0x27, and slow motion or no-motion mapped to both pins */
+static void choosing(struct twin *twin, uint8_t choice, int code) {
+    HOLDS(twin_power_up(twin) == TWIN_DONE && twin_write(twin, 0x19, 8) == TWIN_DONE && twin_write(twin, 0x1B, 8) == TWIN_DONE);
+    HOLDS(twin_write(twin, 0x27, (uint8_t)code) == TWIN_DONE && twin_write(twin, 0x18, choice) == TWIN_DONE);
+}
+
+/* a sample of this x, and whether status and pins then show slow motion or no-motion, or none of them does */
+static bool shows_at(struct twin *twin, int x, bool status) {
+    uint8_t byte = 0xFF, level = status ? TWIN_HIGH : TWIN_LOW;
+    return twin_sample(twin, x, 0, 0, 0) == TWIN_DONE && twin_read(twin, 0x09, &byte, 1) == TWIN_DONE && byte == (status ? 8 : 0)
+        && twin_int1(twin) == level && twin_int2(twin) == level;
+}
+
+/* no-motion by some codes: it waits from the write on, whatever was refused since, to the last microsecond before the time and at it; an over
+ * point wakes it, and then it waits anew */
+static void waits(struct twin *twin) {
+    static const struct {
+        uint8_t code;
+        uint32_t seconds;
+    } times[] = {{0, 1}, {1, 2}, {15, 16}, {16, 40}, {17, 48}, {21, 80}, {32, 88}, {33, 96}, {63, 336}};
+    for (size_t i = 0; i < sizeof times / sizeof times[0]; i++) {
+        uint32_t wait = times[i].seconds * 1000000;
+        choosing(twin, 0x09, 4 * times[i].code);
+        HOLDS(twin_clock(twin, wait - 1) == TWIN_DONE && shows_at(twin, 0, false) && shows_at(twin, 80, false));
+        written(twin, 0x27, 0x58, TWIN_RESERVED_CODE);
+        HOLDS(twin_clock(twin, 1) == TWIN_DONE && shows_at(twin, 0, true));
+        HOLDS(twin_clock(twin, UINT32_MAX) == TWIN_DONE && shows_at(twin, 80, true) && shows_at(twin, -1, false));
+        HOLDS(twin_clock(twin, wait - 1) == TWIN_DONE && shows_at(twin, -1, false) && twin_clock(twin, 1) == TWIN_DONE && shows_at(twin, -1, true));
+    }
+}
+
+/* slow motion by every byte of 0x27: as many points in a row as bits 3:2 say set it, and as many clear it */
+static void slow_motion(struct twin *twin) {
+    for (int byte = 0; byte < 256; byte++) {
+        int needed = byte / 4 % 4 + 1;
+        choosing(twin, 0x01, byte);
+        HOLDS(shows_at(twin, 0, false));
+        for (int over = 1; over <= needed; over++) HOLDS(shows_at(twin, over % 2 * 81, over == needed));
+        for (int calm = 1; calm <= needed; calm++) HOLDS(shows_at(twin, needed % 2 * 81, calm != needed));
+    }
+}
+
 /* every function on a record that is no chip; nothing changes. NULL is also a record */
 static void refused_record(struct twin *twin) {
     struct twin before;
@@ -199,9 +254,11 @@ static void overlaps(void) {
             enum twin_answer answer = lengths[n] > TWIN_LONGEST_READ ? TWIN_BAD_LENGTH : TWIN_DONE;
             memcpy(before, area, sizeof before);
             HOLDS(twin_read(twin, 0x3F, base + at, lengths[n]) == (overlap ? TWIN_BAD_BUFFER : answer));
-            HOLDS(twin_event(twin, TWIN_CLOCK, 0, 0, 0, 0, 0, base + at, lengths[n], 1) == (overlap ? TWIN_BAD_BUFFER : TWIN_DONE));
             if (overlap || answer != TWIN_DONE) HOLDS(memcmp(before, area, sizeof before) == 0);
             else HOLDS(all(base + at, lengths[n], 0));
+            memcpy(before, area, sizeof before);
+            HOLDS(twin_event(twin, TWIN_CLOCK, 0, 0, 0, 0, 0, base + at, lengths[n], 1) == (overlap ? TWIN_BAD_BUFFER : TWIN_DONE));
+            if (overlap) HOLDS(memcmp(before, area, sizeof before) == 0);
         }
     for (size_t at = 0; at < AREA; at++) HOLDS(twin_read(twin, 0x3F, base + at, 0) == TWIN_BAD_LENGTH);
 }
@@ -336,6 +393,9 @@ static void at_the_edge(uint8_t *page, uint8_t *buffers) {
     lacking(twin);
     latch_times(twin);
     falls_and_hits(twin);
+    joined(twin);
+    waits(twin);
+    slow_motion(twin);
     unknown_kinds(twin);
     no_buffer(twin);
     HOLDS(all((uint8_t *)twin + twin_size(), TWIN_ROOM - twin_size(), 0));

@@ -31,8 +31,10 @@ has "<title" && has "<desc" && has "number of the record" && has "counts, as sto
 expect "title, names of the axes, the log's size and SHA-256, version, date, and dashed lines" $?
 has '>BYPASS<' && has '>FIFO<' && has '>16g?<' && has 'fill="url(#doubt)"'
 expect "the modes, and the range in doubt" $?
-draws 0 examples/drop.log && is_on_page drop
-expect "docs/drop.svg is the picture of examples/drop.log" $?
+for log in drop parked; do
+    draws 0 examples/$log.log && is_on_page $log
+    expect "docs/$log.svg is the picture of examples/$log.log" $?
+done
 log_of "$stream$(samples 40)$readout" >"$room/stream.log" && draws 0 "$room/stream.log" && [ "$(lost_columns 42)" = "1 2 3 4 5 6 7 8 " ] && has 'y="673.0".*>8<'
 expect "in STREAM the oldest are lost, and marked at their own place" $?
 log_of "$(samples 3)" >"$room/bypass.log" && draws 0 "$room/bypass.log" && [ "$(lost_columns 3)" = "0 1 " ] && has "in these records no readout came"

@@ -14,8 +14,8 @@ import twin
 
 LIBRARY, ROOM = sys.argv[1:]
 LOGS, RECORDS = 400, 60
-BUSY = (0x0F, 0x13, 0x14, 0x16, 0x17, 0x19, 0x1A, 0x1B, 0x20, 0x21, 0x22, 0x23, 0x24, 0x25, 0x26, 0x27, 0x28, 0x30, 0x3E)
-TIMES = (250, 500, 1000, 4000, 12500, 20000, 25000, 50000, 250000, 500000, 1000000, 2000000, 4000000, 8000000)
+BUSY = (0x0F, 0x13, 0x14, 0x16, 0x17, 0x18, 0x19, 0x1A, 0x1B, 0x20, 0x21, 0x22, 0x23, 0x24, 0x25, 0x26, 0x27, 0x28, 0x29, 0x30, 0x3E)
+TIMES = (250, 500, 1000, 4000, 12500, 20000, 25000, 50000, 250000, 500000, 1000000, 2000000, 4000000, 8000000, 40000000, 88000000)
 checks = failed = 0
 
 
@@ -51,7 +51,7 @@ def some_count(chance):
 
 def some_write(chance):
     address = chance.choice(BUSY) if chance.random() < 0.8 else chance.randrange(0x100)
-    byte = chance.randrange(0x100) if chance.random() < 0.4 else chance.choice((0x01, 0x02, 0x04, 0x07, 0x09, 0x40, 0x80, 0x50))
+    byte = chance.randrange(0x100) if chance.random() < 0.4 else chance.choice((0x01, 0x02, 0x04, 0x07, 0x09, 0x0F, 0x40, 0x58, 0x80, 0x50))
     if address == 0x14 and chance.random() < 0.8:
         byte = 0xB5  # seldom a soft reset
     return "write", (address, byte), struct.pack(">BBB", 1, address, byte)
@@ -109,17 +109,20 @@ def as_the_replay():
     text = subprocess.run([os.path.join(ROOT, "bin", "replay")] + list(logs), stdout=subprocess.PIPE, check=True).stdout.decode()
     printed = [line for line in text.splitlines()]
     chip = twin.Twin(LIBRARY)
-    ours, answers, levels = [], set(), set()
+    ours, answers, statuses, levels = [], set(), set(), set()
     for name, events in logs.items():
         chip.power_up()
         lines = lines_of(chip, events)
         ours += [name] + lines
         answers.update(int(line.split()[1]) for line in lines[:-1])
+        statuses.update(int(line.split()[2][:2], 16) for (kind, asked, _), line in zip(events, lines)
+                        if kind == "read" and asked[0] == 0x09 and line.split()[1] == "0")
         levels.add(lines[-1])
     for ours_is, theirs_is in zip(ours, printed):
         holds("the module prints %r, and the replay %r" % (ours_is, theirs_is), ours_is == theirs_is)
     holds("the replay prints as many lines", len(printed) == len(ours))
     holds("every answer of an event came", answers == {0, 1, 2, 4, 5, 6, 11, 12, 13})
+    holds("each detector's status came", all(any(status >> bit & 1 for status in statuses) for bit in range(4)))
     holds("each level of each pin came", {level[5] for level in levels} == {level[7] for level in levels} == set("01Z"))
 
 
