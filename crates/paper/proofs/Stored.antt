@@ -25,7 +25,7 @@ use Rattle.events.proofs.Runs.{bank-is, bank-length}
 use Rattle.paper.specs.Table.{resetOf, masked}
 use Rattle.paper.specs.Refused.{isReservedWrite, accepts}
 use Rattle.paper.specs.Stored.{isSoftReset, isSpared, none, last, lastWrite, byteLeft, byteBy, isAccepted}
-use Rattle.paper.proofs.Table.{reset-is, masked-is, masked-none}
+use Rattle.paper.proofs.Table.{reset-is, reset-small, masked-is, masked-small, masked-none}
 use Rattle.paper.proofs.Refused.{accepts-is}
 use Rattle.paper.proofs.Writes.{isStored, byteWritten, byte-written}
 
@@ -62,6 +62,10 @@ module _ (P : ℕ → Type 0) (a : ℕ) (first : P (resetOf a)) (left-by : (es :
   always-stored (sample x y z t ∷ es) = always-stored es
   always-stored (cycle ∷ es) = always-stored es
   always-stored (clock us ∷ es) = always-stored es
+
+-- it is a byte
+pub byte-small : (es : List Event) (a : ℕ) → a < 64 → byteBy es a < 256
+byte-small es a h = always-stored (λ v. v < 256) a (reset-small a h) (λ es byte ok. masked-small a byte) es
 
 -- where no bit can be written, it is the reset byte
 pub never-written : (a : ℕ) → a < 64 → writable a ≡ false → (es : List Event) → byteBy es a ≡ resetOf a

@@ -10,6 +10,7 @@ use lib.ListN.{length, getD}
 use borrow.Author.Tests.{eqb-true, not-false, ltb-true}
 use Rattle.laws.specs.Choice.{pick}
 use Rattle.laws.specs.Bits.{bit}
+use Rattle.laws.proofs.Bits.{worth-most}
 use Rattle.laws.proofs.Finite.{alike}
 use Rattle.table.specs.Rows.{rowAt, merged, writable, theTable}
 use Rattle.device.specs.Device.{firstBytes}
@@ -46,7 +47,7 @@ row-reset a h w =
     let e = alike (λ i. pick (writable i) (rowAt i .0) 0) (λ i. pick (writable i) (resetOf i) 0) 64 refl a h in
     rw w at e
 
-reset-small : (a : ℕ) → a < 64 → resetOf a < 256
+pub reset-small : (a : ℕ) → a < 64 → resetOf a < 256
 unfolding tableRows resetOf
 reset-small a h = ltb-true (resetOf a) 256 (alike (λ i. ltb (resetOf i) 256) (λ i. true) 64 refl a h)
 
@@ -65,6 +66,25 @@ masked-is a byte h w =
     λ k l. bit-merged r byte k l ∙ rw (mask-is a h, row-reset a h w) in
     byte-bits (merged r byte) small
     ∙ rw (b 7 (omega arith), b 6 (omega arith), b 5 (omega arith), b 4 (omega arith), b 3 (omega arith), b 2 (omega arith), b 1 (omega arith), b 0 (omega arith))
+
+-- it is a byte
+byte-most : (f : ℕ → Bool) → byteOf f < 256
+byte-most f =
+    omega (
+      arith,
+      worth-most 128 (f 7),
+      worth-most 64 (f 6),
+      worth-most 32 (f 5),
+      worth-most 16 (f 4),
+      worth-most 8 (f 3),
+      worth-most 4 (f 2),
+      worth-most 2 (f 1),
+      worth-most 1 (f 0),
+    )
+
+pub masked-small : (a byte : ℕ) → masked a byte < 256
+unfolding masked
+masked-small a byte = byte-most (λ k. pick (bit k (maskOf a)) (bit k byte) (bit k (resetOf a)))
 
 -- where no bit can be written, the reset byte stays
 no-mask : (a : ℕ) → a < 64 → writable a ≡ false → maskOf a ≡ 0
