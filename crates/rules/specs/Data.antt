@@ -10,7 +10,7 @@ use Rattle.events.specs.Event.{Event}
 use Rattle.events.specs.Views.{atWrite, atRead}
 use Rattle.paper.specs.Stored.{startsAnew, byteBy}
 use Rattle.paper.specs.Samples.{Values, noValues, isSample, valuesAt, twelveBits, lsbByte, msbByte}
-use Rattle.paper.specs.Back.{someSince, beforeLast}
+use Rattle.paper.specs.Back.{someSince, ofLast, beforeLast}
 
 -- ---- events
 -- a read of one byte, at address at
@@ -21,10 +21,9 @@ isRead at e = atRead false (λ a n. both (eqb a at) (eqb n 1)) e
 abbrev pub isRelease : Event → Bool
 isRelease e = atWrite false (λ a byte. both (eqb a 0x13) (bit 6 byte)) e
 
--- ---- the last accepted sample since power-up or soft reset; before any, all is 0
+-- ---- the last accepted sample since power-up or soft reset, as it was stored when it came; before any, all is 0
 abbrev pub lastSample : List Event → Values
-lastSample [] = noValues
-lastSample (e ∷ es) = pick (startsAnew e) noValues (pick (isSample e) (valuesAt es e) (lastSample es))
+lastSample es = ofLast noValues (λ e h. isSample e) (λ e h. startsAnew e) (λ e h. valuesAt h e) es
 
 -- ---- an axis: the address of its LSB register, behind which stands its MSB register, and its value in a sample
 pub record Axis : Type 0 where
