@@ -1,15 +1,16 @@
--- Signed differences: their size, over any bound; and what two's complement of 32 bits holds of two numbers of 16.
+-- Signed differences, sums and products: their size, over any bound; and what two's complement of 32 bits holds of numbers of 16.
 -- Assumes nothing.
 use mathlib.Core.Path.{_≡_, refl}
 use mathlib.Core.Bool.{Bool, true, false, cond}
-use Prim.Native.Nat.{ℕ, zero, suc, _+_, _<_}
+use Prim.Native.Nat.{ℕ, zero, suc, _+_, _-_, _*_, _^_, _<_, _≤_}
 use native.Mathlib.Omega.{arith}
+use native.Mathlib.Nat.{lt-trans}
 use borrow.Author.Tests.{ltb-true}
-use lib.Dec.{T, ltb}
-use lib.IntN.{ℤ, pos, negsuc, negℤ, natAbs, _-ℤ_, +ℤ-idl}
+use lib.Dec.{T, ltb, lit<}
+use lib.IntN.{ℤ, pos, negsuc, negℤ, natAbs, _+ℤ_, _-ℤ_, _*ℤ_, +ℤ-idl}
 use lib.Signed.{mag, ltZ, nonNeg}
-use mir.Syntax.{w16, w32}
-use mir.Val.{SFits, Fits, toZ, ofZ}
+use mir.Syntax.{Width, w16, w32}
+use mir.Val.{hbits, SFits, Fits, toZ, ofZ}
 use mir.Facts.{toZ-ofZ, sfits-widen}
 
 either-size : (t : Bool) (x y : ℤ) (m : ℕ) → natAbs x < m → natAbs y < m → natAbs (cond t x y) < m
@@ -25,6 +26,13 @@ sub-size m (negsuc a) (pos zero) p q = either-size (ltb 0 (suc a)) _ _ (m + m) (
 sub-size m (negsuc a) (pos (suc b)) p q = omega arith
 sub-size m (negsuc a) (negsuc b) p q = either-size (ltb (suc b) (suc a)) _ _ (m + m) (omega arith) (omega arith)
 
+-- a sum is no larger than its two numbers together
+pub sum-size : (a b : ℤ) → natAbs (a +ℤ b) ≤ natAbs a + natAbs b
+sum-size (pos a) (pos b) = omega arith
+sum-size (pos a) (negsuc b) = let h = either-size (ltb a (suc b)) (negsuc (suc b - suc a)) (pos (a - suc b)) (suc (a + suc b)) (omega arith) (omega arith) in omega (arith, h)
+sum-size (negsuc a) (pos b) = let h = either-size (ltb b (suc a)) (negsuc (suc a - suc b)) (pos (b - suc a)) (suc (suc a + b)) (omega arith) (omega arith) in omega (arith, h)
+sum-size (negsuc a) (negsuc b) = omega arith
+
 neg-abs : (z : ℤ) → natAbs (negℤ z) ≡ natAbs z
 neg-abs (pos zero) = refl
 neg-abs (pos (suc n)) = refl
@@ -33,9 +41,15 @@ neg-abs (negsuc n) = refl
 pub neg-size : (z : ℤ) → natAbs (pos 0 -ℤ z) ≡ natAbs z
 neg-size z = rw (+ℤ-idl (negℤ z)) (neg-abs z)
 
-small-fits : (z : ℤ) → natAbs z < 65536 → SFits w32 z
-small-fits (pos n) h = record { sfits = omega arith }
-small-fits (negsuc n) h = record { sfits = omega arith }
+-- a product with a number that is not negative
+pub product-size : (k : ℕ) (z : ℤ) → natAbs (pos k *ℤ z) ≡ k * natAbs z
+product-size k (pos n) = refl
+product-size k (negsuc n) = neg-abs (pos (k * suc n))
+
+-- what is small has so many bits
+pub small-fits : {w : Width} (z : ℤ) → natAbs z < 2 ^ hbits w → SFits w z
+small-fits (pos n) h = record { sfits = h }
+small-fits (negsuc n) h = record { sfits = lt-trans (omega arith) h }
 
 neg-above : (z : ℤ) → ltZ z (pos 0) ≡ true → T (nonNeg (negℤ z))
 neg-above (pos n) e = let h = ltb-true n 0 e in absurd (omega arith)
@@ -62,10 +76,10 @@ module _ {a b : ℤ} (ha : SFits w16 a) (hb : SFits w16 b) where
   near = sub-size 32768 a b (ha .sfits) (hb .sfits)
 
   pub diff-fits : SFits w32 (a -ℤ b)
-  diff-fits = small-fits (a -ℤ b) near
+  diff-fits = small-fits (a -ℤ b) (lt-trans near (lit< tt))
 
   pub turn-fits : SFits w32 (pos 0 -ℤ (a -ℤ b))
-  turn-fits = small-fits (pos 0 -ℤ (a -ℤ b)) (rw neg-size near)
+  turn-fits = small-fits (pos 0 -ℤ (a -ℤ b)) (rw neg-size (lt-trans near (lit< tt)))
 
   size-fits : Fits w32 (natAbs (a -ℤ b))
   size-fits = record { fits = let h = near in omega arith }
