@@ -67,6 +67,16 @@ slowThresholdAt = 0x29
 abbrev pub levelAt : ℕ
 levelAt = 0x30
 
+-- the offsets of the three axes
+abbrev pub xOffsetAt : ℕ
+xOffsetAt = 0x38
+
+abbrev pub yOffsetAt : ℕ
+yOffsetAt = 0x39
+
+abbrev pub zOffsetAt : ℕ
+zOffsetAt = 0x3A
+
 -- the two bytes that a soft reset leaves
 abbrev pub firstSpareAt : ℕ
 firstSpareAt = 0x3B

@@ -54,6 +54,13 @@ pub const SLOW_THRESHOLD_AT: usize = 0x29;
 // The watermark's level.
 pub const LEVEL_AT: usize = 0x30;
 
+// The offsets of the three axes.
+pub const X_OFFSET_AT: usize = 0x38;
+
+pub const Y_OFFSET_AT: usize = 0x39;
+
+pub const Z_OFFSET_AT: usize = 0x3A;
+
 // The two bytes that a soft reset leaves.
 pub const FIRST_SPARE_AT: usize = 0x3B;
 

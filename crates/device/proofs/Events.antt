@@ -10,12 +10,11 @@ use lib.ListN.{length}
 use Rattle.laws.specs.Choice.{pick}
 use Rattle.codes.specs.Addresses.{controlAt, framesAt}
 use Rattle.codes.specs.Axes.{axesOf}
-use Rattle.channels.specs.Codes.{codes}
 use Rattle.channels.specs.Channels.{sampled}
 use Rattle.channels.specs.declared.Channels.{Channels}
 use Rattle.fifo.specs.Flat.{Flat, numbersOf}
 use Rattle.fifo.specs.Store.{readoutAt}
-use Rattle.detectors.specs.Detectors.{detectorsSampled, detectorsWritten}
+use Rattle.detectors.specs.Detectors.{detectorsWritten}
 use Rattle.registers.specs.Answers.{accepted}
 use Rattle.registers.specs.Deeds.{judgement}
 use Rattle.registers.specs.Refused.{readAnswer}
@@ -25,7 +24,7 @@ use Rattle.device.specs.Device.{depth, reg, flatOf, withChannels, withFl
 use Rattle.device.specs.Show.{insideOf}
 use Rattle.device.specs.Write.{writeOf, written, regsWritten, channelsWritten, flatWritten}
 use Rattle.device.specs.Read.{readOf, bufferAfter, readoutBytes, locks, channelsRead, bytesFrom}
-use Rattle.device.specs.Sample.{sampleOf, sampleAnswer, afterAccepted, flatSampled}
+use Rattle.device.specs.Sample.{sampleOf, sampleAnswer, afterAccepted, flatSampled, storedCodes, detectorsStored}
 use Rattle.device.specs.declared.Device.{Device}
 use Rattle.device.specs.declared.Answered.{Answered}
 use Rattle.device.proofs.Laws.{after-is}
@@ -62,11 +61,11 @@ module _ (d : Device) (a byte : ℕ) (j : Judged) (is : j ≡ judgement (d .regs
 module _ (d : Device) (x y z : ℤ) (t : ℕ) (answer : Answer) (told : answer ≡ sampleAnswer x y z) where
   pub record Sampled (s : Device) : Type 0 where
     pub regs : s .regs ≡ d .regs
-    pub channels : s .channels ≡ sampled (codes x y z) (d .channels)
+    pub channels : s .channels ≡ sampled (storedCodes (d .regs) x y z) (d .channels)
     pub temperature : s .temperature ≡ t
     pub came : s .came ≡ true
-    pub flat : flatOf s ≡ flatSampled (codes x y z) d
-    pub detectors : s .detectors ≡ detectorsSampled (d .regs) x y z (d .detectors)
+    pub flat : flatOf s ≡ flatSampled (storedCodes (d .regs) x y z) d
+    pub detectors : s .detectors ≡ detectorsStored (d .regs) x y z (d .detectors)
 
   pub sample-is : accepted answer ≡ true → (s : Device) → Sampled s → _≡_ {A = Answered} (record { answer = answer; device = s }) (sampleOf d x y z t)
   unfolding sampleOf afterAccepted

@@ -26,6 +26,7 @@ use Rattle.gravity.specs.Low.{areBelow, judgedLow, lowShown}
 use Rattle.gravity.specs.High.{judgedHigh, highShown}
 use Rattle.gravity.specs.Gravity.{bothRestarted, bothClocked, lowSampled, highSampled, bothSampled}
 use Rattle.slow.specs.Slow as slow
+use Rattle.offsets.specs.Offsets.{signedByte, heldInside, storedBy}
 use Rattle.detectors.specs.Detectors.{detectorsSampled, detectorsClocked, detectorsWritten}
 use Rattle.interrupts.specs.Statuses.{statusesOf}
 use Rattle.interrupts.specs.Maps.{statusByte, isActive}
@@ -38,5 +39,5 @@ use Rattle.device.specs.Sample.{sampleAnswer, afterAccepted, sampleOf, c
 use Rattle.device.specs.Clock.{clockOf}
 
 unfoldable pub theDevice : ℕ
-unfolding bit zeros firstOrZeros movedForward rangeOf latchOf modeOf axesOf waitOf theTable reservedCode notModelled lackAt answerAt readAnswer deedsOf judgement clears flatPushed flatRead bytesRead pushedIn readIn bytesIn countIn noFrames code byteAt afterRead lapseOf slopesTo firstOver pointOf overRun calmRun afterOver afterCalm afterSample restarted clocked longer spell.restarted spell.clocked spell.afterMet spell.afterUnmet spell.afterSample areBelow judgedLow lowShown judgedHigh highShown bothRestarted bothClocked lowSampled highSampled bothSampled slow.restarted slow.clocked slow.noMotionSampled slow.sampled detectorsSampled detectorsClocked detectorsWritten statusesOf statusByte isActive pinLevel powerUp firstBytes shownByte pinsOf byteFrom afterSingles singleBytes readOf bufferAfter written writeOf sampleAnswer afterAccepted sampleOf cycleOf clockOf
+unfolding bit zeros firstOrZeros movedForward rangeOf latchOf modeOf axesOf waitOf theTable reservedCode notModelled lackAt answerAt readAnswer deedsOf judgement clears flatPushed flatRead bytesRead pushedIn readIn bytesIn countIn noFrames code byteAt afterRead lapseOf slopesTo firstOver pointOf overRun calmRun afterOver afterCalm afterSample restarted clocked longer spell.restarted spell.clocked spell.afterMet spell.afterUnmet spell.afterSample areBelow judgedLow lowShown judgedHigh highShown bothRestarted bothClocked lowSampled highSampled bothSampled slow.restarted slow.clocked slow.noMotionSampled slow.sampled signedByte heldInside storedBy detectorsSampled detectorsClocked detectorsWritten statusesOf statusByte isActive pinLevel powerUp firstBytes shownByte pinsOf byteFrom afterSingles singleBytes readOf bufferAfter written writeOf sampleAnswer afterAccepted sampleOf cycleOf clockOf
 theDevice = 0

@@ -15,7 +15,9 @@ use Rattle.channels.specs.Channels.{sampled}
 use Rattle.channels.specs.declared.Codes.{Codes}
 use Rattle.fifo.specs.Flat.{Flat, numbersOf}
 use Rattle.fifo.specs.Store.{pushedAt}
+use Rattle.offsets.specs.Offsets.{storedBy}
 use Rattle.detectors.specs.Detectors.{detectorsSampled}
+use Rattle.detectors.specs.declared.Detectors.{Detectors}
 use Rattle.registers.specs.Answers.{accepted}
 use Rattle.registers.specs.declared.Answer.{Answer}
 use Rattle.registers.specs.declared.Answer.the-variants.{Done, OutOfRange}
@@ -23,7 +25,7 @@ use Rattle.device.specs.Device.{depth, reg, flatOf, withCame}
 use Rattle.device.specs.declared.Device.{Device}
 use Rattle.device.specs.declared.Answered.{Answered}
 
--- 4, "x, y or z outside -2048..2047"
+-- 4, "x, y or z outside -2048..2047"; Q-7: "4 still tests the given sample"
 abbrev pub sampleRows : ℤ → ℤ → ℤ → List (AnswerRow Answer)
 sampleRows x y z = row OutOfRange (either (not (inRange x)) (either (not (inRange y)) (not (inRange z)))) ∷ []
 
@@ -44,6 +46,14 @@ frameOf X k = oneAxis (k .x)
 frameOf Y k = oneAxis (k .y)
 frameOf Z k = oneAxis (k .z)
 
+-- Q-7: "Channels, FIFO and detectors all see the stored sample". The bits of what is stored of a sample, by the bytes that the registers hold
+abbrev pub storedCodes : List ℕ → ℤ → ℤ → ℤ → Codes
+storedCodes regs x y z = let s = storedBy regs x y z in codes (s .x) (s .y) (s .z)
+
+-- the detectors after an accepted sample
+abbrev pub detectorsStored : List ℕ → ℤ → ℤ → ℤ → Detectors → Detectors
+detectorsStored regs x y z d = let s = storedBy regs x y z in detectorsSampled regs (s .x) (s .y) (s .z) d
+
 -- the FIFO after an accepted sample's frame came
 abbrev pub flatSampled : Codes → Device → Flat
 flatSampled k d = let axes = axesOf (reg d controlAt) in pushedAt depth (modeOf (reg d controlAt)) axes (frameOf axes k) (flatOf d)
@@ -52,12 +62,12 @@ flatSampled k d = let axes = axesOf (reg d controlAt) in pushedAt depth (modeOf 
 unfoldable pub afterAccepted : ℤ → ℤ → ℤ → ℕ → Device → Device
 afterAccepted x y z temperature d = record {
   regs = d .regs;
-  channels = sampled (codes x y z) (d .channels);
+  channels = sampled (storedCodes (d .regs) x y z) (d .channels);
   temperature = temperature;
   came = true;
-  frames = flatSampled (codes x y z) d .bytes;
-  fifo = numbersOf (flatSampled (codes x y z) d);
-  detectors = detectorsSampled (d .regs) x y z (d .detectors);
+  frames = flatSampled (storedCodes (d .regs) x y z) d .bytes;
+  fifo = numbersOf (flatSampled (storedCodes (d .regs) x y z) d);
+  detectors = detectorsStored (d .regs) x y z (d .detectors);
 }
 
 unfoldable pub sampleOf : Device → ℤ → ℤ → ℤ → ℕ → Answered

@@ -36,6 +36,7 @@ use interrupts::Pin;
 use interrupts::Pins;
 use interrupts::pin_level;
 use laws::bit;
+use offsets::stored_by;
 use registers::Answer;
 use registers::is_accepted;
 use registers::judge_write;
@@ -123,7 +124,7 @@ impl Core {
         CoreAnswered { answer, core: self }
     }
 
-    // A sample.
+    // A sample. Whether it is accepted goes by what is given; channels, FIFO and detectors see what is stored of it.
     pub fn sample(
         mut self,
         regs: &[u8; 64],
@@ -138,7 +139,8 @@ impl Core {
     {
         let answer = sample_answer(x, y, z);
         if is_accepted(answer) {
-            let codes = codes_of(x, y, z);
+            let stored = stored_by(regs, x, y, z);
+            let codes = codes_of(stored.x, stored.y, stored.z);
             let control = regs[CONTROL_AT];
             let axes = axes_of(control);
             let mode = mode_of(control);
@@ -150,7 +152,7 @@ impl Core {
             let fifo = self.fifo;
             self.fifo = fifo.push(frames, Device::DEPTH, mode, axes, frame);
             let detectors = self.detectors;
-            self.detectors = detectors.sample(regs, x, y, z);
+            self.detectors = detectors.sample(regs, stored.x, stored.y, stored.z);
         }
         CoreAnswered { answer, core: self }
     }

@@ -41,7 +41,7 @@ notModelled regs r a b = not (eqb (bitAnd b (r .2)) 0)
 
 -- Q-1, "Tell me which kind of thing the twin lacks .. Split it by register": "11 a detector bit in 0x16 to 0x18; 12 a power mode in
 -- 0x11; 13 self-test, memory, calibration or offset in 0x32, 0x33, 0x36, 0x38 to 0x3A"; Q-5: "11 no longer for 0x17"; Q-6: "11 no
--- longer for 0x18". 13 has the other registers of which something is refused
+-- longer for 0x18"; Q-7: "13 no longer for 0x38 to 0x3A". 13 has the other registers of which something is refused
 abbrev pub lacks : List (Key Answer)
 lacks = powerAt means NoPowerMode ∷ axesAt means NoDetector ∷ []
 

@@ -43,11 +43,9 @@ find (l ∷ ls) a other = pick (eqb a (l .address)) l (find ls a other)
 unfoldable pub paperLineOf : ℕ → PaperLine
 paperLineOf a = find listed a (pick (isIn reservedAddresses a) (line a 0xFF 0) (line a 0 0))
 
--- "Refused 3: a 1 in .."; by Q-1 the number is the register's. An address, with those bits as the mask
+-- "Refused 3: a 1 in .."; by Q-1 the number is the register's. An address, with those bits as the mask. Q-7: "13 no longer for 0x38 to 0x3A"
 unfoldable pub refusedBits : List PaperLine
-refusedBits =
-    line 0x11 0 0xE0 ∷ line 0x16 0 0xF0 ∷ line 0x32 0 0x03 ∷ line 0x33 0 0x0B ∷
-    line 0x36 0 0xE7 ∷ line 0x38 0 0xFF ∷ line 0x39 0 0xFF ∷ line 0x3A 0 0xFF ∷ []
+refusedBits = line 0x11 0 0xE0 ∷ line 0x16 0 0xF0 ∷ line 0x32 0 0x03 ∷ line 0x33 0 0x0B ∷ line 0x36 0 0xE7 ∷ []
 
 unfoldable pub rowOf : ℕ → Row
 rowOf a = record { 0 = paperLineOf a .reset; 1 = paperLineOf a .mask; 2 = find refusedBits a (line a 0 0) .mask }

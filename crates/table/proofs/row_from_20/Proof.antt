@@ -41,6 +41,5 @@ row-from-20-spec =
     (λ c. ap rowAt (sym (c .match .keys20)))
     (λ c. ap rowAt (sym (c .match .keys21)))
     (λ c. run own 0x20 0x2A _ (omega arith) refl _ (absent _ own _ (c .before .before .match .rest)) (c .before .if1 .left) (c .if2 .taken))
-    (λ c. run own 0x36 0x3B _ (omega arith) refl _ (absent _ own _ (c .before .before .before .before .match .rest)) (c .before .if3 .left) (c .if4 .taken))
-    (λ c. run own 0x3B 0x3D _ (omega arith) refl _ (absent _ own _ (c .before .before .before .before .before .match .rest)) (c .before .if4 .left) (c .if5 .taken))
+    (λ c. run own 0x36 0x3D _ (omega arith) refl _ (absent _ own _ (c .before .before .before .before .match .rest)) (c .before .if3 .left) (c .if4 .taken))
     (λ c. c .row-in-table .ensures))
