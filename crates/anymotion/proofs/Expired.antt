@@ -20,7 +20,7 @@ use Rattle.registers.specs.Answers.{accepted}
 use Rattle.registers.specs.Refused.{reservedCode, notModelled, answerAt, writeAnswer}
 use Rattle.registers.specs.Deeds.{deedsOf, judgement}
 use Rattle.registers.specs.declared.Deeds.{Deeds}
-use Rattle.device.specs.Sample.{sampleAnswer}
+use Rattle.device.specs.Sample.{sampleAnswer, detectorsStored}
 use Rattle.events.specs.Event.{Event, powerUp, write, read, sample, cycle, clock, bytes}
 use Rattle.events.specs.Run.{after}
 use Rattle.events.specs.Bank.{bankNext, bank, stored}
@@ -66,7 +66,7 @@ same-next regs (write a byte) d d′ s = go (judgement regs a byte .deeds .reset
 same-next regs (read a n) d d′ s = s
 same-next regs (sample x y z t) d d′ s = go (accepted (sampleAnswer x y z))
   where
-    go : (t : Bool) → SameMotion (pick t (detectorsSampled regs x y z d) d) (pick t (detectorsSampled regs x y z d′) d′)
+    go : (t : Bool) → SameMotion (pick t (detectorsStored regs x y z d) d) (pick t (detectorsStored regs x y z d′) d′)
     go true = record { previous = refl; motion = rw (s .previous, s .motion) }
     go false = s
 same-next regs cycle d d′ s = s

@@ -12,13 +12,12 @@ use Rattle.laws.specs.Bits.{bit, worth}
 use Rattle.laws.specs.Choice.{pick, both}
 use Rattle.laws.specs.Lists.{isIn}
 use Rattle.laws.proofs.Finite.{left, right, picked}
-use Rattle.codes.specs.Axes.{axesOf}
 use Rattle.fifo.specs.Ledger as fifo
 use Rattle.fifo.specs.declared.Setting.{Setting}
 use Rattle.events.specs.Event.{Event, powerUp, write, read, sample, cycle, clock}
 use Rattle.demand3.specs.Chip.{Said, sampled, readOut, nothing, onto, since}
 use Rattle.demand3.specs.Counts.{begun, heldAfter}
-use Rattle.history.specs.History.{accelerometer, control, setting, frame, saysHere}
+use Rattle.history.specs.History.{accelerometer, control, setting, frameAt, saysHere}
 use Rattle.demand3.proofs.Chip.{isCleared}
 use Rattle.history.proofs.Conserve.{demand3, lawful, over-clears-here}
 use Rattle.history.proofs.Holds.{holds-after}
@@ -26,7 +25,7 @@ use Rattle.demand3.proofs.Whole.{next-held}
 use Rattle.rules.specs.Rules.{depthBy, watermarkStatus}
 use Rattle.paper.specs.Stored.{byteBy, isAccepted}
 use Rattle.paper.specs.Readouts.{readsOut, clearsFifo}
-use Rattle.paper.specs.Samples.{isSample}
+use Rattle.paper.specs.Samples.{isSample, valuesAt}
 use Rattle.rules.proofs.Reading.{depth-is}
 use Rattle.demand2.specs.Demand2.{elsewhere}
 use Rattle.demand2.specs.Watermark.{watermarkBit, level, frameCount, frameSize, Reaches, setUpAt, goesOn, goOn, arrived, framesAskedBy, framesAsked, Watermark}
@@ -113,9 +112,9 @@ module _ (es : List Event) where
       go : (t : Bool) → heldAfter s (onto (pick t (readOut n) nothing) es') ≡ heldAfter s es' - pick t (begun (s .size) n) 0
       go true = refl
       go false = none-less (heldAfter s es')
-  held-said (sample x y z t) on s es' = go (isSample (sample x y z t))
+  held-said (sample x y z t₀) on s es' = go (isSample (sample x y z t₀))
     where
-      go : (t : Bool) → heldAfter s (onto (pick t (sampled (frame (axesOf (control es)) x y z)) nothing) es') ≡ pick t (min (s .depth) (suc (heldAfter s es'))) (heldAfter s es' - 0)
+      go : (t : Bool) → heldAfter s (onto (pick t (sampled (frameAt es (valuesAt es (sample x y z t₀)))) nothing) es') ≡ pick t (min (s .depth) (suc (heldAfter s es'))) (heldAfter s es' - 0)
       go true = refl
       go false = none-less (heldAfter s es')
   held-said cycle on s es' = none-less (heldAfter s es')

@@ -8,8 +8,7 @@ use mathlib.Core.Path.{_≡_, refl, _∙_}
 use native.Mathlib.Omega.{arith}
 use lib.IntN.{ℤ}
 use lib.ListN.{length, getD, take}
-use Rattle.laws.specs.Choice.{pick, both}
-use Rattle.laws.proofs.Finite.{left, right}
+use Rattle.laws.specs.Choice.{pick}
 use Rattle.codes.specs.Addresses.{controlAt}
 use Rattle.codes.specs.Axes.{axesOf}
 use Rattle.codes.specs.Mode.{modeOf, isReservedMode}
@@ -33,11 +32,12 @@ use Rattle.events.specs.Run.{after}
 use Rattle.events.specs.Parts.{flatNext}
 use Rattle.events.proofs.Parts.{flat-next}
 use Rattle.paper.specs.Stored.{byteBy}
-use Rattle.paper.specs.Samples.{isInside, allInside}
+use Rattle.paper.specs.Samples.{isInside, allInside, storedBehind}
 use Rattle.paper.specs.Readouts.{readsOut, clearsFifo}
 use Rattle.paper.proofs.Stored.{held-is}
 use Rattle.paper.proofs.Codes.{mode-known}
 use Rattle.paper.proofs.Samples.{sample-is, code-is, upper-is}
+use Rattle.paper.proofs.Offsets.{stored-inside, stored-after}
 use Rattle.paper.proofs.Readouts.{readout-is, clears-is, control-kept}
 use Rattle.demand3.specs.Chip.{since}
 use Rattle.history.specs.History.{control, frame, saysHere, accelerometer}
@@ -97,22 +97,33 @@ module _ (es : List Event) {f : Flat} (h : Stores es f) where
       go true e = record { same = rw (e, h .same) (read-packed (h .fits) n); fits = rw e (fits-read (h .fits) n) }
       go false e = record { same = rw e (h .same); fits = rw e (h .fits) }
 
-  stores-sample : (x y z : ℤ) (t : ℕ)
+  -- what is stored of the sample is x, y, z, and lies inside
+  stores-sample : (gx gy gz : ℤ) (t : ℕ)
       → let axes = axesOf (control es) in
-      Stores (sample x y z t ∷ es) (pick (allInside x y z) (pushedAt depth (modeOf (control es)) axes (frameOf axes (codes x y z)) f) f)
+      let x = storedBehind es 0x38 gx in
+      let y = storedBehind es 0x39 gy in
+      let z = storedBehind es 0x3A gz in
+      Stores (sample gx gy gz t ∷ es) (pick (allInside gx gy gz) (pushedAt depth (modeOf (control es)) axes (frameOf axes (codes x y z)) f) f)
   unfolding byteBy since saysHere queueAt
-  stores-sample x y z t = go (allInside x y z) refl
+  stores-sample gx gy gz t = go (allInside gx gy gz) refl
     where
       c : ℕ
       c = control es
 
-      go : (s : Bool) → allInside x y z ≡ s
-          → Stores (sample x y z t ∷ es) (pick s (pushedAt depth (modeOf (control es)) (axesOf (control es)) (frameOf (axesOf (control es)) (codes x y z)) f) f)
+      x : ℤ
+      x = storedBehind es 0x38 gx
+
+      y : ℤ
+      y = storedBehind es 0x39 gy
+
+      z : ℤ
+      z = storedBehind es 0x3A gz
+
+      go : (s : Bool) → allInside gx gy gz ≡ s
+          → Stores (sample gx gy gz t ∷ es) (pick s (pushedAt depth (modeOf (control es)) (axesOf (control es)) (frameOf (axesOf (control es)) (codes x y z)) f) f)
       go true e =
           let l = frame-long (axesOf c) x y z in
-          let first = left (isInside x) (both (isInside y) (isInside z)) e in
-          let rest = right (isInside x) (both (isInside y) (isInside z)) e in
-          let is = frame-is (axesOf c) x y z first (left (isInside y) (isInside z) rest) (right (isInside y) (isInside z) rest) in
+          let is = frame-is (axesOf c) x y z (stored-inside es 0x38 gx) (stored-inside es 0x39 gy) (stored-inside es 0x3A gz) in
           record {
             same = rw (e, h .same) (pushed-packed (h .fits) (modeOf c) (frameOf (axesOf c) (codes x y z)) (l .0) ∙ rw is);
             fits = rw e (fits-pushed (h .fits) (modeOf c) (frame (axesOf c) x y z) (l .1));
@@ -128,7 +139,7 @@ unfolding since saysHere
 stores-next es powerUp h = stores-none (powerUp ∷ es) refl
 stores-next es (write a byte) h = rw (clears-is es a byte) (stores-write es h a byte)
 stores-next es (read a n) h = rw (readout-is a n, held-is es controlAt (omega arith)) (stores-read es h a n)
-stores-next es (sample x y z t) h = rw (sample-is x y z, held-is es controlAt (omega arith)) (stores-sample es h x y z t)
+stores-next es (sample x y z t) h = rw (sample-is x y z, held-is es controlAt (omega arith), stored-after es x y z) (stores-sample es h x y z t)
 stores-next es cycle h = stores-other es h .0
 stores-next es (clock us) h = stores-other es h .1 us
 

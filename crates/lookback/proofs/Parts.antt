@@ -23,8 +23,9 @@ use Rattle.events.specs.Parts.{detectorsNext}
 use Rattle.events.proofs.Parts.{detectors-next}
 use Rattle.events.proofs.Runs.{bank-is}
 use Rattle.paper.specs.Stored.{startsAnew, isAccepted}
-use Rattle.paper.specs.Samples.{Values, allInside}
+use Rattle.paper.specs.Samples.{Values, allInside, valuesAt}
 use Rattle.paper.proofs.Samples.{sample-is}
+use Rattle.paper.proofs.Offsets.{sample-stored}
 use Rattle.lookback.specs.InForce.{beginsAnew}
 use Rattle.lookback.specs.Sight.{point, passed}
 use Rattle.lookback.specs.Watch.{Watch, Sights, Going, goingBy, restarts, pointAt}
@@ -103,8 +104,9 @@ module _ (w : Watch) (part : Part w) where
   held-restarted es (clock us) old r = cc
 
   sampled : (es : List Event) (x y z : ℤ) (t : ℕ) → allInside x y z ≡ true
-      → held (sample x y z t ∷ es) ≡ part .get (detectorsSampled (bank es) x y z (after es .detectors))
-  sampled es x y z t f = steps es (sample x y z t) ∙ rw (sample-is x y z, f)
+      → let v = valuesAt es (sample x y z t) in
+      held (sample x y z t ∷ es) ≡ part .get (detectorsSampled (bank es) (v .x) (v .y) (v .z) (after es .detectors))
+  sampled es x y z t f = steps es (sample x y z t) ∙ rw (sample-is x y z, f, sample-stored es x y z)
 
   pub held-idle : (es : List Event) (e : Event) → isClock e ≡ false → restarts w es e ≡ false → pointAt w es e ≡ [] → held (e ∷ es) ≡ held es
   unfolding pointAt beginsAnew
@@ -114,7 +116,7 @@ module _ (w : Watch) (part : Part w) where
   held-idle es (sample x y z t) c r q = go (allInside x y z) refl
     where
       go : (b : Bool) → allInside x y z ≡ b → held (sample x y z t ∷ es) ≡ held es
-      go true f = sampled es x y z t f ∙ part .idle es (record { x = x; y = y; z = z; temperature = t }) (rw f at q)
+      go true f = sampled es x y z t f ∙ part .idle es (valuesAt es (sample x y z t)) (rw f at q)
       go false f = steps es (sample x y z t) ∙ rw (sample-is x y z, f)
   held-idle es cycle c r q = steps es cycle
   held-idle es (clock us) c r q = cc
@@ -129,7 +131,7 @@ module _ (w : Watch) (part : Part w) where
     where
       go : (b : Bool) → allInside x y z ≡ b
           → held (sample x y z t ∷ es) ≡ record { run = part .runOf (goingBy w es) (point p ∷ ss); alarm = judgedBy w (goingBy w es) p ss (held es .alarm) }
-      go true f = sampled es x y z t f ∙ part .judges es (record { x = x; y = y; z = z; temperature = t }) p (rw f at q) ss h
+      go true f = sampled es x y z t f ∙ part .judges es (valuesAt es (sample x y z t)) p (rw f at q) ss h
       go false f = let k : [] ≡ p ∷ [] = rw f at q in cc
   held-judged es cycle p q ss h = cc
   held-judged es (clock us) p q ss h = cc

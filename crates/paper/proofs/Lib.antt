@@ -5,4 +5,6 @@ pub mod Writes
 pub mod Stored
 pub mod Codes
 pub mod Samples
+pub mod OffsetWrites
+pub mod Offsets
 pub mod Readouts

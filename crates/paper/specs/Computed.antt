@@ -4,8 +4,9 @@ use Rattle.laws.specs.Bits.{bit}
 use Rattle.paper.specs.Table.{tableRows, resetOf, maskOf, masked}
 use Rattle.paper.specs.Refused.{isReservedWrite, isDetectorWrite, isPowerModeWrite, isTestOrTrimWrite, accepts}
 use Rattle.paper.specs.Stored.{byteBy}
+use Rattle.paper.specs.Samples.{storedBehind}
 use Rattle.paper.specs.Readouts.{readsOut}
 
 unfoldable pub thePaper : ℕ
-unfolding bit tableRows resetOf maskOf masked isReservedWrite isDetectorWrite isPowerModeWrite isTestOrTrimWrite accepts byteBy readsOut
+unfolding bit tableRows resetOf maskOf masked isReservedWrite isDetectorWrite isPowerModeWrite isTestOrTrimWrite accepts byteBy storedBehind readsOut
 thePaper = 0

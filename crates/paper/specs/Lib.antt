@@ -3,6 +3,7 @@ pub mod Ranges
 pub mod Refused
 pub mod Stored
 pub mod Samples
+pub mod OffsetWrites
 pub mod Readouts
 pub mod Back
 pub mod Computed

@@ -1,4 +1,4 @@
--- 01, "Numbers given back" and "Register table", Q-1, Q-4, Q-5 and Q-6: which writes are refused, in their words. No contract cites this: proofs/Refused
+-- 01, "Numbers given back" and "Register table", Q-1 and Q-4 to Q-7: which writes are refused, in their words. No contract cites this: proofs/Refused
 -- holds the definitions that the contracts cite against it.
 use Prim.Native.Nat.{ℕ, _/_, _%_}
 use mathlib.Core.Bool.{Bool, false, not}
@@ -44,14 +44,13 @@ unfoldable pub isPowerModeWrite : ℕ → ℕ → Bool
 isPowerModeWrite a b = pick (eqb a 0x11) (oneIn (7 ∷ 6 ∷ 5 ∷ []) b) false
 
 -- 13, "self-test, memory, calibration or offset in 0x32, 0x33, 0x36, 0x38 to 0x3A": "a 1 in .. 0x32 bits 1:0, 0x33 bits 3, 1, 0, 0x36
--- bits 7:5 or 2:0; anything but 0 to 0x38 to 0x3A"
+-- bits 7:5 or 2:0"; Q-7: "13 no longer for 0x38 to 0x3A"
 unfoldable pub isTestOrTrimWrite : ℕ → ℕ → Bool
 isTestOrTrimWrite a b =
     pick (eqb a 0x32) (oneIn (1 ∷ 0 ∷ []) b)
     (pick (eqb a 0x33) (oneIn (3 ∷ 1 ∷ 0 ∷ []) b)
     (pick (eqb a 0x36) (oneIn (7 ∷ 6 ∷ 5 ∷ 2 ∷ 1 ∷ 0 ∷ []) b)
-    (pick (isIn (0x38 ∷ 0x39 ∷ 0x3A ∷ []) a) (oneIn (7 ∷ 6 ∷ 5 ∷ 4 ∷ 3 ∷ 2 ∷ 1 ∷ 0 ∷ []) b)
-    false)))
+    false))
 
 -- in 3's place, by Q-1: "Tell me which kind of thing the twin lacks .. Split it by register"; and Q-4: "14 is gone", so of 0x21 nothing is refused
 abbrev pub isLacking : ℕ → ℕ → Bool

@@ -21,8 +21,9 @@ use Rattle.events.specs.Parts.{detectorsNext}
 use Rattle.events.proofs.Parts.{detectors-next}
 use Rattle.events.proofs.Runs.{bank-is}
 use Rattle.paper.specs.Stored.{isAccepted}
-use Rattle.paper.specs.Samples.{allInside}
+use Rattle.paper.specs.Samples.{Values, allInside, valuesAt}
 use Rattle.paper.proofs.Samples.{sample-is}
+use Rattle.paper.proofs.Offsets.{sample-stored}
 use Rattle.lookback.specs.InForce.{beginsAnew}
 use Rattle.lookback.proofs.InForce.{deed-is}
 use Rattle.points.specs.Points.{forgetting, samples}
@@ -47,9 +48,12 @@ previous-next es d h (write a byte) =
     go false true = refl
     go false false = h
 previous-next es d h (read a n) = h
-previous-next es d h (sample x y z t) = rw (sample-is x y z) (go (allInside x y z))
+previous-next es d h (sample x y z t) = rw (sample-is x y z, sample-stored es x y z) (go (allInside x y z))
   where
-    go : (b : Bool) → Follows (pick b (detectorsSampled (bank es) x y z d) d .previous) (pick b (record { x = x; y = y; z = z; temperature = t } ∷ []) [] ++ samples es)
+    v : Values
+    v = valuesAt es (sample x y z t)
+
+    go : (b : Bool) → Follows (pick b (detectorsSampled (bank es) (v .x) (v .y) (v .z) d) d .previous) (pick b (v ∷ []) [] ++ samples es)
     go true = refl
     go false = h
 previous-next es d h cycle = h

@@ -8,17 +8,18 @@ use native.Mathlib.Omega.{arith}
 use lib.Dec.{eqb}
 use lib.IntN.{ℤ, pos}
 use borrow.Author.Tests.{ne-eqb}
-use Rattle.laws.specs.Choice.{pick, both, either}
+use Rattle.laws.specs.Choice.{pick, either}
 use Rattle.laws.specs.Bits.{bit}
 use Rattle.laws.specs.Lists.{isIn}
-use Rattle.laws.proofs.Finite.{left, right, AtEach, at-any}
+use Rattle.laws.proofs.Finite.{AtEach, at-any}
 use Rattle.channels.specs.Channels.{noSample, withSample, afterLsb, unlocked, noSamples, sampled, released, afterRead}
 use Rattle.channels.specs.Codes.{code, codes, msbOf}
 use Rattle.channels.specs.declared.Channel.{Channel}
 use Rattle.channels.specs.declared.Channels.{Channels}
 use Rattle.events.specs.Event.{Event, sample}
 use Rattle.paper.specs.Stored.{startsAnew, byteBy}
-use Rattle.paper.specs.Samples.{noValues, isInside, isSample, valuesAt, twelveBits}
+use Rattle.paper.specs.Samples.{Values, noValues, isInside, isSample, valuesAt, twelveBits}
+use Rattle.paper.proofs.Offsets.{stored-inside}
 use Rattle.paper.specs.Back.{beforeLast}
 use Rattle.rules.specs.Data.{isRead, isRelease, Axis, present, newData, locking, isLocked, dataAddresses, xAxis, yAxis, zAxis}
 
@@ -95,8 +96,8 @@ pub record Part (axis : Axis) (part : Channels → Channel) : Type 0 where
   pub zeros : axis .value noValues ≡ pos 0
   pub none : part noSamples ≡ noSample
   pub releases : (c : Channels) → part (released c) ≡ unlocked (part c)
-  pub samples : (x y z : ℤ) (t : ℕ) (h : List Event) (c : Channels) → part (sampled (codes x y z) c) ≡ withSample (code (axis .value (valuesAt h (sample x y z t)))) (part c)
-  pub inside : (x y z : ℤ) (t : ℕ) (h : List Event) → isSample (sample x y z t) ≡ true → isInside (axis .value (valuesAt h (sample x y z t))) ≡ true
+  pub samples : (v : Values) (c : Channels) → part (sampled (codes (v .x) (v .y) (v .z)) c) ≡ withSample (code (axis .value v)) (part c)
+  pub inside : (x y z : ℤ) (t : ℕ) (h : List Event) → isInside (axis .value (valuesAt h (sample x y z t))) ≡ true
   pub reads : (lock : Bool) (a : ℕ) (c : Channels)
       → part (afterRead lock a c) ≡ pick (eqb a (axis .lsbAt)) (afterLsb lock (part c)) (pick (eqb a (suc (axis .lsbAt))) (unlocked (part c)) (part c))
 
@@ -131,8 +132,8 @@ x-part = record {
   zeros = refl;
   none = refl;
   releases = λ c. refl;
-  samples = λ x y z t h c. refl;
-  inside = λ x y z t h ok. left (isInside x) (both (isInside y) (isInside z)) ok;
+  samples = λ v c. refl;
+  inside = λ x y z t h. stored-inside h 0x38 x;
   reads = λ lock a c. reads-at 0x02 refl refl (λ c. c .x) lock c (refl, (refl, (refl, (refl, (refl, (refl, tt)))))) a;
 }
 
@@ -143,8 +144,8 @@ y-part = record {
   zeros = refl;
   none = refl;
   releases = λ c. refl;
-  samples = λ x y z t h c. refl;
-  inside = λ x y z t h ok. left (isInside y) (isInside z) (right (isInside x) (both (isInside y) (isInside z)) ok);
+  samples = λ v c. refl;
+  inside = λ x y z t h. stored-inside h 0x39 y;
   reads = λ lock a c. reads-at 0x04 refl refl (λ c. c .y) lock c (refl, (refl, (refl, (refl, (refl, (refl, tt)))))) a;
 }
 
@@ -155,7 +156,7 @@ z-part = record {
   zeros = refl;
   none = refl;
   releases = λ c. refl;
-  samples = λ x y z t h c. refl;
-  inside = λ x y z t h ok. right (isInside y) (isInside z) (right (isInside x) (both (isInside y) (isInside z)) ok);
+  samples = λ v c. refl;
+  inside = λ x y z t h. stored-inside h 0x3A z;
   reads = λ lock a c. reads-at 0x06 refl refl (λ c. c .z) lock c (refl, (refl, (refl, (refl, (refl, (refl, tt)))))) a;
 }

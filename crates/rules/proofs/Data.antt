@@ -32,12 +32,13 @@ use Rattle.events.specs.Parts.{channelsNext}
 use Rattle.events.proofs.Parts.{channels-next}
 use Rattle.events.proofs.Runs.{bank-is}
 use Rattle.paper.specs.Stored.{byteBy}
-use Rattle.paper.specs.Samples.{isSample, valuesAt}
+use Rattle.paper.specs.Samples.{Values, isSample, valuesAt}
 use Rattle.rules.specs.Bursts.{isBurst, singles, opened}
 use Rattle.paper.specs.Back.{beforeLast}
 use Rattle.rules.specs.Data.{isRead, isRelease, Axis, present, newData, locking, isLocked, lsbShown, msbShown, xAxis, yAxis, zAxis, dataBy}
 use Rattle.paper.proofs.Stored.{stored-is}
 use Rattle.paper.proofs.Samples.{sample-is, code-is}
+use Rattle.paper.proofs.Offsets.{sample-stored}
 use Rattle.rules.proofs.Bursts.{burst-is, burst-bounds, one-read, opened-same}
 use Rattle.rules.proofs.Channels.{no, Shows, starts, samples, reads-lsb, unlocks, passes, Part, x-part, y-part, z-part}
 
@@ -83,15 +84,18 @@ module _ (axis : Axis) (part : Channels → Channel) (w : Part axis part) (h : L
         go false p false q = passes axis e h (channel h) s (record { is-start = p; is-sample = refl; is-lsb = refl; is-msb = refl; is-release = q })
 
     shows-sample : (x y z : ℤ) (t : ℕ) → Shows axis (sample x y z t ∷ h) (channel (sample x y z t ∷ h))
-    shows-sample x y z t = after-event (sample x y z t) (rw (sample-is x y z) (go (isSample (sample x y z t)) refl))
+    shows-sample x y z t = after-event (sample x y z t) (rw (sample-is x y z, sample-stored h x y z) (go (isSample (sample x y z t)) refl))
       where
         e : Event
         e = sample x y z t
 
-        go : (ok : Bool) → isSample e ≡ ok → Shows axis (e ∷ h) (part (pick ok (sampled (codes x y z) (after h .channels)) (after h .channels)))
+        v : Values
+        v = valuesAt h e
+
+        go : (ok : Bool) → isSample e ≡ ok → Shows axis (e ∷ h) (part (pick ok (sampled (codes (v .x) (v .y) (v .z)) (after h .channels)) (after h .channels)))
         go true p =
-            rw (w .samples x y z t h (after h .channels))
-            (samples axis e h (channel h) s (record { is-start = refl; is-sample = p; is-lsb = refl; is-msb = refl; is-release = refl }) _ (code-is (axis .value (valuesAt h e)) (w .inside x y z t h p)))
+            rw (w .samples v (after h .channels))
+            (samples axis e h (channel h) s (record { is-start = refl; is-sample = p; is-lsb = refl; is-msb = refl; is-release = refl }) _ (code-is (axis .value v) (w .inside x y z t h)))
         go false p = passes axis e h (channel h) s (record { is-start = refl; is-sample = p; is-lsb = refl; is-msb = refl; is-release = refl })
 
     shows-cycle : Shows axis (cycle ∷ h) (channel (cycle ∷ h))

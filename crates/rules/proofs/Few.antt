@@ -10,7 +10,6 @@ use Rattle.laws.proofs.Finite.{picked}
 use Rattle.codes.specs.Addresses.{controlAt}
 use Rattle.codes.specs.Mode.{modeOf}
 use Rattle.codes.specs.Axes.{axesOf}
-use Rattle.channels.specs.Codes.{codes}
 use Rattle.fifo.specs.Flat.{Flat}
 use Rattle.fifo.specs.Setting.{depthIn}
 use Rattle.fifo.specs.Store.{emptied, room}
@@ -19,7 +18,7 @@ use Rattle.fifo.proofs.Store.{pushed-few, read-few}
 use Rattle.registers.specs.Answers.{accepted}
 use Rattle.device.specs.Device as device
 use Rattle.device.specs.Device.{depth, reg, flatOf}
-use Rattle.device.specs.Sample.{sampleAnswer, frameOf}
+use Rattle.device.specs.Sample.{sampleAnswer, frameOf, storedCodes}
 use Rattle.events.specs.Event.{Event, powerUp, write, read, sample, cycle, clock}
 use Rattle.events.specs.Run.{after}
 use Rattle.events.specs.Parts.{flatNext, readsFrames}
@@ -51,7 +50,7 @@ few-next es f p (sample x y z t) =
     let axes = axesOf (byteBy es 0x3E) in
     rw (held-is es controlAt (omega arith))
     (picked (λ (g : Flat). Few (byteBy es 0x3E) g) (accepted (sampleAnswer x y z))
-    (pushed-few deep (modeOf (byteBy es 0x3E)) axes (frameOf axes (codes x y z)) f p) p)
+    (pushed-few deep (modeOf (byteBy es 0x3E)) axes (frameOf axes (storedCodes (after es .regs) x y z)) f p) p)
 few-next es f p cycle = p
 few-next es f p (clock us) = p
 

@@ -13,7 +13,6 @@ use borrow.Author.Tests.{eqb-true, eqb-false}
 use Rattle.laws.specs.Bits.{worth}
 use Rattle.laws.specs.Choice.{pick, both}
 use Rattle.codes.specs.Addresses.{rangeAt, framesAt, controlAt}
-use Rattle.codes.specs.Axes.{axesOf}
 use Rattle.codes.specs.Mode.{modeOf}
 use Rattle.codes.specs.Range.{rangeOf}
 use Rattle.fifo.specs.Flat.{Flat, packed}
@@ -24,7 +23,7 @@ use Rattle.registers.specs.Answers.{accepted}
 use Rattle.registers.specs.Deeds.{judgement}
 use Rattle.paper.specs.Computed.{thePaper}
 use Rattle.paper.specs.Stored.{byteBy, isAccepted}
-use Rattle.paper.specs.Samples.{allInside}
+use Rattle.paper.specs.Samples.{allInside, valuesAt}
 use Rattle.paper.specs.Readouts.{readsOut, clearsFifo}
 use Rattle.paper.proofs.Stored.{stored-is, accepted-is}
 use Rattle.paper.proofs.Samples.{sample-is}
@@ -43,7 +42,7 @@ use Rattle.events.proofs.Runs.{bank-is}
 use Rattle.demand3.specs.Chip.{Said, cleared, sampled, readOut, nothing, since}
 use Rattle.demand3.specs.Counts.{begun, heldAfter}
 use Rattle.demand3.specs.Demand.{fates}
-use Rattle.history.specs.History.{accelerometer, control, frame, setting, saysHere}
+use Rattle.history.specs.History.{accelerometer, frameAt, setting, saysHere}
 use Rattle.demand3.specs.Whole.{Totals, totalled, heldNow, totals}
 use Rattle.history.proofs.Conserve.{demand3, over-clears-here, device-holds, lawful}
 use Rattle.demand3.proofs.Whole.{few, next-totals, next-held}
@@ -337,7 +336,7 @@ counts-next es (read a n) few room = go (readsOut a n) refl
 counts-next es (sample x y z temperature) few room = go (allInside x y z) refl
   where
     go : (t : Bool) → allInside x y z ≡ t → Counted es (sample x y z temperature)
-    go true q = let p = sample-is x y z ∙ q in rw p (sampled-counts es (sample x y z temperature) few room (frame (axesOf (control es)) x y z) (rw q) p refl)
+    go true q = let p = sample-is x y z ∙ q in rw p (sampled-counts es (sample x y z temperature) few room (frameAt es (valuesAt es (sample x y z temperature))) (rw q) p refl)
     go false q = let p = sample-is x y z ∙ q in rw p (rw p at (left-is es (sample x y z temperature) few room 0 0 (gone-none es (sample x y z temperature) (rw q)) refl))
 counts-next es cycle few room = left-is es cycle few room 0 0 (gone-none es cycle refl) refl
 counts-next es (clock us) few room = left-is es (clock us) few room 0 0 (gone-none es (clock us) refl) refl
