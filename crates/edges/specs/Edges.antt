@@ -1,5 +1,5 @@
 -- 01, "Both sides of each edge": the rows P1 to P10, and those of the requests, as one table.
-use Prim.Native.Nat.{ℕ, _+_, _-_, _*_}
+use Prim.Native.Nat.{ℕ, _+_, _-_, _*_, _/_, _%_}
 use mathlib.Core.List.{List, [], _∷_, _++_}
 use lib.IntN.{ℤ, pos, negsuc, negℤ}
 use Rattle.laws.specs.Table.{upFrom}
@@ -311,6 +311,53 @@ allFour code =
 abbrev held : ℕ → ℕ → List Step
 held chosen byte = read 0x18 1 ⇒ bytes (chosen ∷ []) ∷ read 0x27 1 ⇒ bytes (byte ∷ []) ∷ []
 
+-- ---- offsets
+-- the two bytes of twelve bits that are stored, new
+abbrev stored : ℕ → List ℕ
+stored bits = (bits % 16 * 16 + 1) ∷ (bits / 16) ∷ []
+
+-- an axis: a sample of it alone, its offset's address, what selects it in 0x3E, and its LSB's address
+pub record OneAxis : Type 0 where
+  pub given : ℤ → Event
+  pub offset : ℕ
+  pub chosen : ℕ
+  pub lsb : ℕ
+
+abbrev onX : OneAxis
+onX = record { given = x; offset = 0x38; chosen = 0x01; lsb = 0x02 }
+
+abbrev onY : OneAxis
+onY = record { given = y; offset = 0x39; chosen = 0x02; lsb = 0x04 }
+
+abbrev onZ : OneAxis
+onZ = record { given = z; offset = 0x3A; chosen = 0x03; lsb = 0x06 }
+
+-- of a sample of one axis, selected in 0x3E: the twelve bits that are stored, as the frame and the channel have them
+abbrev stores : OneAxis → ℤ → ℕ → List Step
+stores on v bits = on .given v ⇒ answer 0 ∷ read 0x3F 2 ⇒ bytes (stored bits) ∷ read (on .lsb) 2 ⇒ bytes (stored bits) ∷ []
+
+abbrev outside : OneAxis → ℤ → List Step
+outside on v = on .given v ⇒ answer 4 ∷ []
+
+-- both sides of both limits, with an offset of so many counts up, and of so many down; and what is given at both ends, and past them
+abbrev limitUp : OneAxis → ℕ → ℕ → List Step
+limitUp on byte counts =
+    written (on .offset) byte ++ stores on (pos 0) counts
+    ++ stores on (pos (2046 - counts)) 0x7FE ++ stores on (pos (2047 - counts)) 0x7FF ++ stores on (pos (2048 - counts)) 0x7FF
+    ++ stores on (pos 2047) 0x7FF ++ outside on (pos 2048) ++ stores on (minus 2048) (0x800 + counts) ++ outside on (minus 2049)
+
+abbrev limitDown : OneAxis → ℕ → ℕ → List Step
+limitDown on byte counts =
+    written (on .offset) byte ++ stores on (pos 0) (0x1000 - counts)
+    ++ stores on (minus (2047 - counts)) 0x801 ++ stores on (minus (2048 - counts)) 0x800 ++ stores on (minus (2049 - counts)) 0x800
+    ++ stores on (minus 2048) 0x800 ++ outside on (minus 2049) ++ stores on (pos 2047) (0x7FF - counts) ++ outside on (pos 2048)
+
+-- in a range, by its code and the counts of a step: one step, and as many as a byte has
+abbrev limitsIn : ℕ → ℕ → OneAxis → List Step
+limitsIn code step on =
+    written 0x0F code ++ written 0x3E (on .chosen)
+    ++ limitUp on 0x01 step ++ limitUp on 0x7F (127 * step) ++ limitDown on 0xFF step ++ limitDown on 0x80 (128 * step)
+
 -- each row starts at a fresh device
 abbrev pub rows : List (List Step)
 rows =
@@ -348,15 +395,15 @@ rows =
     -- Q-1 "12 a power mode in 0x11", also two modes or three at once
     eachBit at 0x11 give (12 ∷ 12 ∷ 12 ∷ 0 ∷ 0 ∷ 0 ∷ 0 ∷ 0 ∷ []) leave 0x00 ∷
     (0x1E ∷ 0x60 ∷ 0xA0 ∷ 0xC0 ∷ 0xE0 ∷ 0xFE ∷ []) at 0x11 give (0 ∷ 12 ∷ 12 ∷ 12 ∷ 12 ∷ 12 ∷ []) leave 0x1E ∷
-    -- Q-1 "13 self-test, memory, calibration or offset in 0x32, 0x33, 0x36, 0x38 to 0x3A"; 0x37 was never refused
+    -- Q-1 "13 self-test, memory, calibration or offset in 0x32, 0x33, 0x36, 0x38 to 0x3A"; 0x37 was never refused; Q-7 "13 no longer for 0x38 to
+    -- 0x3A"
     eachBit at 0x32 give (0 ∷ 0 ∷ 0 ∷ 0 ∷ 0 ∷ 0 ∷ 13 ∷ 13 ∷ []) leave 0x04 ∷
     eachBit at 0x33 give (0 ∷ 0 ∷ 0 ∷ 0 ∷ 13 ∷ 0 ∷ 13 ∷ 13 ∷ []) leave 0xF4 ∷
     eachBit at 0x36 give (13 ∷ 13 ∷ 13 ∷ 0 ∷ 0 ∷ 13 ∷ 13 ∷ 13 ∷ []) leave 0x10 ∷
     eachBit at 0x37 give (0 ∷ 0 ∷ 0 ∷ 0 ∷ 0 ∷ 0 ∷ 0 ∷ 0 ∷ []) leave 0x01 ∷
-    eachBit at 0x38 give (13 ∷ 13 ∷ 13 ∷ 13 ∷ 13 ∷ 13 ∷ 13 ∷ 13 ∷ []) leave 0x00 ∷
-    eachBit at 0x39 give (13 ∷ 13 ∷ 13 ∷ 13 ∷ 13 ∷ 13 ∷ 13 ∷ 13 ∷ []) leave 0x00 ∷
-    eachBit at 0x3A give (13 ∷ 13 ∷ 13 ∷ 13 ∷ 13 ∷ 13 ∷ 13 ∷ 13 ∷ []) leave 0x00 ∷
-    (0x00 ∷ []) at 0x38 give (0 ∷ []) leave 0x00 ∷ (0x00 ∷ []) at 0x39 give (0 ∷ []) leave 0x00 ∷ (0x00 ∷ []) at 0x3A give (0 ∷ []) leave 0x00 ∷
+    eachBit at 0x38 give allDone 8 leave 0x01 ∷ eachBit at 0x39 give allDone 8 leave 0x01 ∷ eachBit at 0x3A give allDone 8 leave 0x01 ∷
+    (0x00 ∷ 0xFF ∷ []) at 0x38 give allDone 2 leave 0xFF ∷ (0x80 ∷ 0x7F ∷ []) at 0x39 give allDone 2 leave 0x7F ∷
+    (0xFF ∷ 0x00 ∷ []) at 0x3A give allDone 2 leave 0x00 ∷
     -- Q-4 "14 is gone": every nibble, and with the command of bit 7
     upFrom (λ nibble. nibble) 0x00 16 at 0x21 give allDone 16 leave 0x0F ∷
     upFrom (λ nibble. nibble) 0x80 16 at 0x21 give allDone 16 leave 0x0F ∷
@@ -774,6 +821,53 @@ rows =
     (allFour 0b0111 ++ shows (write 0x0F 0x03) 0x00) ∷
     (allFour 0b0111 ++ shows (write 0x21 0b0111) 0x00) ∷
     (allFour 0b0111 ++ shows (write 0x14 0xB6) 0x00) ∷
+    -- Q-7 "one step is 8, 4, 2 or 1 counts at 2, 4, 8 or 16 g .. held at -2048 or 2047 where it would pass", "4 still tests the given sample"
+    limitsIn 0x03 8 onX ∷ limitsIn 0x03 8 onY ∷ limitsIn 0x03 8 onZ ∷ limitsIn 0x05 4 onX ∷ limitsIn 0x05 4 onY ∷ limitsIn 0x05 4 onZ ∷
+    limitsIn 0x08 2 onX ∷ limitsIn 0x08 2 onY ∷ limitsIn 0x08 2 onZ ∷ limitsIn 0x0C 1 onX ∷ limitsIn 0x0C 1 onY ∷ limitsIn 0x0C 1 onZ ∷
+    -- .. 127 steps and -128 are neighbours as bytes: 7F and 80
+    (written 0x3E 0x01 ++ written 0x38 0x7F ++ stores onX (pos 0) 0x3F8 ++ written 0x38 0x80 ++ stores onX (pos 0) 0xC00) ∷
+    -- .. each axis has its own: x, y and z of one frame, and of the channels
+    (written 0x38 0x01 ++ written 0x39 0x02 ++ written 0x3A 0xFF ++ (sample (pos 16) (pos 16) (pos 16) 0 ⇒ answer 0 ∷
+    read 0x3F 6 ⇒ bytes (stored 0x018 ++ stored 0x020 ++ stored 0x008) ∷ read 0x02 6 ⇒ bytes (stored 0x018 ++ stored 0x020 ++ stored 0x008) ∷ [])) ∷
+    -- .. the range at the sample: of the same sample with the same offset
+    (written 0x3E 0x01 ++ written 0x38 0x05 ++ stores onX (pos 0) 0x028 ++ written 0x0F 0x05 ++ stores onX (pos 0) 0x014 ++ written 0x0F 0x08
+    ++ stores onX (pos 0) 0x00A ++ written 0x0F 0x0C ++ stores onX (pos 0) 0x005 ++ (write 0x0F 0x04 ⇒ answer 2 ∷ stores onX (pos 0) 0x005)
+    ++ written 0x0F 0x03 ++ stores onX (pos 0) 0x028) ∷
+    -- .. what is stored stays: frames and channels of before, whatever offset or range is written
+    (written 0x3E 0x41 ++ written 0x38 0x01 ++ (x (pos 0) ⇒ answer 0 ∷ written 0x38 0x02) ++ (x (pos 0) ⇒ answer 0 ∷ written 0x0F 0x0C)
+    ++ (x (pos 0) ⇒ answer 0 ∷ written 0x38 0xFF) ++ (read 0x02 2 ⇒ bytes (stored 0x002) ∷
+    read 0x3F 6 ⇒ bytes (stored 0x008 ++ stored 0x010 ++ stored 0x002) ∷ read 0x0E 1 ⇒ bytes (0x00 ∷ []) ∷ [])) ∷
+    -- .. a refused sample stores nothing, and 0x36 bit 7 stays refused and resets no offset; a soft reset does
+    (written 0x3E 0x01 ++ written 0x38 0xFF ++ stores onX (pos 8) 0x000 ++ outside onX (pos 2048) ++ (read 0x02 2 ⇒ bytes (0x00 ∷ 0x00 ∷ []) ∷
+    read 0x0E 1 ⇒ bytes (0x00 ∷ []) ∷ write 0x36 0x80 ⇒ answer 13 ∷ stores onX (pos 8) 0x000)) ∷
+    (written 0x38 0x7F ++ written 0x39 0x80 ++ written 0x3A 0xFF ++ written 0x14 0xB6 ++ (read 0x38 3 ⇒ bytes (0x00 ∷ 0x00 ∷ 0x00 ∷ []) ∷
+    sample (pos 1) (pos 2) (pos 3) 0 ⇒ answer 0 ∷ read 0x3F 6 ⇒ bytes (stored 0x001 ++ stored 0x002 ++ stored 0x003) ∷ [])) ∷
+    -- .. "detectors all see the stored sample": any-motion on the jump of an offset, up and down; 4 counts are no slope above 4, 5 are
+    (motionWith 0 0x00 ++ sampled (pos 0) 0x00 ++ written 0x38 0x01 ++ sampled (pos 0) 0x04 ++ (read 0x0B 1 ⇒ bytes (0x01 ∷ []) ∷ sampled (pos 0) 0x00)
+    ++ written 0x38 0xFF ++ sampled (pos 0) 0x04 ++ (read 0x0B 1 ⇒ bytes (0x09 ∷ []) ∷ sampled (pos 0) 0x00)) ∷
+    (written 0x0F 0x0C ++ motionWith 0 0x00 ++ sampled (pos 0) 0x00 ++ written 0x38 0x04 ++ sampled (pos 0) 0x00 ++ written 0x38 0x09
+    ++ sampled (pos 0) 0x04) ∷
+    -- .. the previous sample is what was stored: the same again by another way is no slope
+    (motionWith 0 0x00 ++ written 0x38 0x01 ++ sampled (pos 0) 0x00 ++ written 0x38 0x00 ++ sampled (pos 8) 0x00 ++ sampled (pos 13) 0x04) ∷
+    -- .. held at the limit, two samples are alike though they were given 1000 apart
+    (motionWith 0 0x00 ++ written 0x38 0x7F ++ sampled (pos 2047) 0x00 ++ sampled (pos 1047) 0x00 ++ sampled (pos 1026) 0x04) ∷
+    -- .. slow motion on it too; and no-motion, for which it is an over point, also where nothing moves
+    (slow 0x00 0x00 ++ sampled (pos 0) 0x00 ++ written 0x38 0x01 ++ sampled (pos 0) 0x08 ++ sampled (pos 0) 0x00) ∷
+    (still 0 0x00 ++ sampled (pos 0) 0x00 ++ clocked 1000000 0x00 ++ written 0x38 0x01 ++ sampled (pos 0) 0x00 ++ second (pos 0)
+    ++ written 0x38 0x00 ++ sampled (pos 0) 0x00) ∷
+    -- .. low-g below 384 of what is stored, in 2 g counts, and high-g above 1536
+    (written 0x38 0x01 ++ low ++ through (x (pos 375)) 0x01 ++ through (x (pos 376)) 0x00) ∷
+    (written 0x0F 0x0C ++ written 0x38 0xFE ++ low ++ through (x (pos 49)) 0x01 ++ through (x (pos 50)) 0x00) ∷
+    (written 0x38 0x01 ++ high 0x01 ++ through (x (pos 1529)) 0x02 ++ through (x (pos 1528)) 0x00) ∷
+    (written 0x39 0xFF ++ high 0x02 ++ through (y (minus 1529)) 0x02 ++ marks 0x0A ++ through (y (minus 1528)) 0x00) ∷
+    -- .. "The size of -2048 is 2048", also of what is held there: above 2040
+    (written 0x38 0x80 ++ highWith 0x01 0x00 0xFF 0x00 0x00 ++ through (x (minus 1500)) 0x02 ++ marks 0x09) ∷
+    -- .. a write to 0x38 to 0x3A restarts nothing: neither a status nor a run, and no sample is forgotten
+    (allFour 0b0111 ++ shows (write 0x38 0x01) 0x0F ++ shows (write 0x39 0x7F) 0x0F ++ shows (write 0x3A 0x80) 0x0F) ∷
+    keptBy 0x38 0x00 0 ∷ keptBy 0x39 0x01 0 ∷ keptBy 0x3A 0xFF 0 ∷ eachKeptBy 0x38 0x00 0 ∷ eachKeptBy 0x39 0x7F 0 ∷ eachKeptBy 0x3A 0x80 0 ∷
+    motionKeptBy 0x38 0x00 0 ∷ motionKeptBy 0x39 0x80 0 ∷ motionKeptBy 0x3A 0x01 0 ∷
+    -- .. but what the offset brings does count: the jump is the second of two over points in a row
+    (motionWith 1 0x00 ++ sampled (pos 0) 0x00 ++ sampled (pos 5) 0x00 ++ written 0x38 0x01 ++ sampled (pos 5) 0x04) ∷
     -- the wait of each code
     (upFrom (λ code. waitOf code (code + 1)) 0 16 ++ upFrom (λ step. waitOf (16 + step) (40 + 8 * step)) 0 6
     ++ upFrom (λ step. waitOf (32 + step) (88 + 8 * step)) 0 32)

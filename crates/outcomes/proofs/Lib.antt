@@ -11,6 +11,7 @@ pub mod SettledMotion
 pub mod SettledSpell
 pub mod SettledGravity
 pub mod SettledSlow
+pub mod SettledOffsets
 pub mod SettledDetectors
 pub mod SettledInterrupts
 pub mod SettledDevice

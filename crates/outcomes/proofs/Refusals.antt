@@ -250,7 +250,7 @@ pub each-given : (d : Device)
     number (readOf d 0x3F 193 .answer) ∷ number (readOf d 0x3E 2 .answer) ∷
     beginsNumber (readVersion (2 ∷ []) .begins) ∷ foundNumber (readAt (0 ∷ 9 ∷ []) 0 .found) ∷ beginsNumber (readVersion [] .begins) ∷
     roomNumber (written [] 0 (1 ∷ []) .room) ∷
-    number (writeOf d 0x16 0x80 .answer) ∷ number (writeOf d 0x11 0x20 .answer) ∷ number (writeOf d 0x38 0x01 .answer) ∷ []
+    number (writeOf d 0x16 0x80 .answer) ∷ number (writeOf d 0x11 0x20 .answer) ∷ number (writeOf d 0x36 0x80 .answer) ∷ []
     ≡ 0 ∷ 1 ∷ 2 ∷ 4 ∷ 5 ∷ 6 ∷ 7 ∷ 8 ∷ 9 ∷ 10 ∷ 11 ∷ 12 ∷ 13 ∷ []
 unfolding writeOf judgement answerAt reservedCode rangeOf modeOf bit notModelled lackAt theTable readOf readAnswer sampleOf sampleAnswer readVersion readHead foundIn roomFor
 each-given d = refl

@@ -27,7 +27,7 @@ abbrev pub ReservedWrite : (ℕ → ℕ) → ℕ → ℕ → Type 0
 ReservedWrite held a b = isReservedWrite held a b ≡ true
 
 -- 11, "a detector bit in 0x16 to 0x18", by Q-5 "no longer for 0x17" and by Q-6 "no longer for 0x18"; 12, "a power mode in 0x11"; 13, "self-test,
--- memory, calibration or offset in 0x32, 0x33, 0x36, 0x38 to 0x3A"
+-- memory, calibration or offset in 0x32, 0x33, 0x36, 0x38 to 0x3A", by Q-7 "no longer for 0x38 to 0x3A"
 abbrev pub DetectorWrite : ℕ → ℕ → Type 0
 DetectorWrite a b = isDetectorWrite a b ≡ true
 
@@ -41,7 +41,7 @@ TestOrTrimWrite a b = isTestOrTrimWrite a b ≡ true
 abbrev pub LackingWrite : ℕ → ℕ → Type 0
 LackingWrite a b = DetectorWrite a b ⊎ (PowerModeWrite a b ⊎ TestOrTrimWrite a b)
 
--- 4, "x, y or z outside -2048..2047"
+-- 4, "x, y or z outside -2048..2047"; Q-7: "4 still tests the given sample"
 abbrev pub SomeOutside : ℤ → ℤ → ℤ → Type 0
 SomeOutside x y z = allInside x y z ≡ false
 
