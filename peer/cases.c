@@ -371,9 +371,9 @@ static const struct {
     {0x32, "10", "765432", 13}, /* self-test */
     {0x33, "310", "76542", 13}, /* memory */
     {0x36, "765210", "43", 13}, /* calibration */
-    {0x38, "76543210", "", 13}, /* offsets */
-    {0x39, "76543210", "", 13},
-    {0x3A, "76543210", "", 13},
+    {0x38, "", "76543210", 13}, /* no more: offsets are applied */
+    {0x39, "", "76543210", 13},
+    {0x3A, "", "76543210", 13},
 };
 
 enum { LACKING = sizeof lacking / sizeof *lacking };
@@ -1200,9 +1200,27 @@ static bool reads_as(struct peer *t, unsigned address, unsigned byte)
     return peer_read(t, (uint8_t)address, &got, 1) == 0 && got == byte;
 }
 
-/* One step of a story: AA=BB writes, and AA=BB!N is refused N; x,y,z is a sample; +N a clock of so
-   many microseconds; AA?BB asks whether AA reads BB, ?SS/MM whether 0x09 is SS and 0x0C is MM, and
-   ?SS whether 0x09 is SS and no mark and no sign is there. */
+/* Whether six bytes from the address are a sample's: of the channels at 0x02, of a frame at 0x3F. */
+static bool sample_at(struct peer *t, uint8_t address, int x, int y, int z)
+{
+    const int wanted[3] = {x, y, z};
+    uint8_t got[6];
+
+    if (peer_read(t, address, got, 6) != 0)
+        return false;
+    for (int axis = 0; axis < 3; axis++) {
+        int bits = got[2 * axis] >> 4 | got[2 * axis + 1] << 4;
+
+        if ((bits < 2048 ? bits : bits - 4096) != wanted[axis])
+            return false;
+    }
+    return true;
+}
+
+/* One step of a story: AA=BB writes, and AA=BB!N is refused N; x,y,z is a sample, and x,y,z!N is
+   refused N; +N a clock of so many microseconds; AA?BB asks whether AA reads BB, ?SS/MM whether 0x09
+   is SS and 0x0C is MM, ?SS whether 0x09 is SS and no mark and no sign is there, @x,y,z whether the
+   channels have this sample and >x,y,z whether the next frame is of it. */
 static bool step_holds(struct peer *t, const char *step)
 {
     unsigned first, second, refusal = 0;
@@ -1210,8 +1228,12 @@ static bool step_holds(struct peer *t, const char *step)
 
     if (sscanf(step, "%x=%x!%u", &first, &second, &refusal) >= 2)
         return peer_write(t, (uint8_t)first, (uint8_t)second) == refusal;
-    if (sscanf(step, "%d,%d,%d", &x, &y, &z) == 3)
-        return peer_sample(t, x, y, z, 0) == 0;
+    if (sscanf(step, "%d,%d,%d!%u", &x, &y, &z, &refusal) >= 3)
+        return peer_sample(t, x, y, z, 0) == refusal;
+    if (sscanf(step, "@%d,%d,%d", &x, &y, &z) == 3)
+        return sample_at(t, 0x02, x, y, z);
+    if (sscanf(step, ">%d,%d,%d", &x, &y, &z) == 3)
+        return sample_at(t, 0x3F, x, y, z);
     if (sscanf(step, "%x?%x", &first, &second) == 2)
         return reads_as(t, first, second);
     if (sscanf(step, "?%x/%x", &first, &second) == 2)
@@ -1623,7 +1645,7 @@ static const char *const g_others[] = {
     "0F=04!2", "0F=00!2", "10=0F", "11=00", "11=80!12", "12=00", "13=40",    "14=B5",
     "16=00",   "16=17!11", "18=08", "18=0F", "19=03", "1A=FF", "1B=03",   "1E=03",
     "20=00",   "27=03",   "28=00", "29=00", "2A=00",    "2F=00", "30=01",    "38=00",
-    "38=01!13", "39=00",   "3A=00", "3B=FF", "3E=40",    "3E=C0!2", "3F=00",  "40=00!1",
+    "36=80!13", "39=00",   "3A=00", "3B=FF", "3E=40",    "3E=C0!2", "3F=00",  "40=00!1",
     "57=0F!1", "00=00",   "09=00", "0C=00", "1F=00",    "33=00", "36=00",
 };
 
@@ -2295,7 +2317,8 @@ static const char *const slow_others[] = {
     "0F=04!2", "10=0F",   "11=00", "11=80!12", "12=00",    "13=40",    "14=B5", "16=00",
     "16=07",   "16=17!11", "17=00", "17=7F",   "19=08",    "1A=FF",    "1B=08", "1E=08",
     "20=00",   "22=00",   "23=30", "24=81",    "25=0F",    "26=C0",
-    "28=00",   "28=FF",   "2A=00", "2F=00",    "30=01",    "32=01!13", "38=00", "38=01!13",
+    "28=00",   "28=FF",   "2A=00", "2F=00",    "30=01",    "32=01!13", "38=00", "36=80!13",
+    "39=01",   "3A=80", /* of y and z, which are not enabled */
     "3B=FF",   "3E=40",   "3E=C0!2", "3F=00",  "40=00!1",  "58=09!1",  "69=01!1", "00=00",
     "09=00",   "1F=00",
 };
@@ -2654,6 +2677,473 @@ static void slow_and_no_motion(void)
     slow_at_random();
 }
 
+/* ---- offsets ---- */
+
+enum { REFUSED = 4096 }; /* for what is stored of a given count that is refused 4 */
+
+/* The byte of an axis's offset, a given count of it and what is stored; by hand. The last one below,
+   the first and the next one at each end of the 12 bits, and counts that are outside as they are
+   given although the offset would bring them in. */
+struct stored {
+    unsigned byte;
+    int given, stored;
+};
+
+static const struct stored at_2_g[] = { /* a step is 8 counts */
+    {0x00, 0, 0},       {0x00, 2047, 2047},   {0x00, 2048, REFUSED}, {0x00, -2048, -2048},
+    {0x00, -2049, REFUSED},
+    {0x01, 0, 8},       {0x01, -9, -1},       {0x01, 2038, 2046},    {0x01, 2039, 2047},
+    {0x01, 2040, 2047}, {0x01, 2047, 2047},   {0x01, 2048, REFUSED}, {0x01, -2048, -2040},
+    {0x01, -2049, REFUSED}, {0x01, -2056, REFUSED},
+    {0x7F, 0, 1016},    {0x7F, -1016, 0},     {0x7F, 1030, 2046},    {0x7F, 1031, 2047},
+    {0x7F, 1032, 2047}, {0x7F, 2047, 2047},   {0x7F, 2048, REFUSED}, {0x7F, -2048, -1032},
+    {0x7F, -2049, REFUSED}, {0x7F, -3064, REFUSED},
+    {0x80, 0, -1024},   {0x80, 1024, 0},      {0x80, -1023, -2047},  {0x80, -1024, -2048},
+    {0x80, -1025, -2048}, {0x80, -2048, -2048}, {0x80, -2049, REFUSED}, {0x80, 2047, 1023},
+    {0x80, 2048, REFUSED}, {0x80, 3071, REFUSED},
+    {0x81, 0, -1016},   {0x81, -1031, -2047}, {0x81, -1032, -2048},  {0x81, -1033, -2048},
+    {0xFF, 0, -8},      {0xFF, 9, 1},         {0xFF, -2039, -2047},  {0xFF, -2040, -2048},
+    {0xFF, -2041, -2048}, {0xFF, -2048, -2048}, {0xFF, -2049, REFUSED}, {0xFF, 2047, 2039},
+    {0xFF, 2048, REFUSED}, {0xFF, 2055, REFUSED},
+};
+
+static const struct stored at_4_g[] = { /* 4 counts */
+    {0x00, 2047, 2047}, {0x00, -2048, -2048},
+    {0x01, 0, 4},       {0x01, 2042, 2046},   {0x01, 2043, 2047},    {0x01, 2044, 2047},
+    {0x01, 2048, REFUSED}, {0x01, -2048, -2044}, {0x01, -2049, REFUSED},
+    {0x7F, 0, 508},     {0x7F, 1538, 2046},   {0x7F, 1539, 2047},    {0x7F, 1540, 2047},
+    {0x7F, 2047, 2047}, {0x7F, -2048, -1540}, {0x7F, -2049, REFUSED},
+    {0x80, 0, -512},    {0x80, -1535, -2047}, {0x80, -1536, -2048},  {0x80, -1537, -2048},
+    {0x80, -2048, -2048}, {0x80, 2047, 1535}, {0x80, 2048, REFUSED},
+    {0xFF, 0, -4},      {0xFF, -2043, -2047}, {0xFF, -2044, -2048},  {0xFF, -2045, -2048},
+    {0xFF, -2049, REFUSED}, {0xFF, 2047, 2043}, {0xFF, 2048, REFUSED},
+};
+
+static const struct stored at_8_g[] = { /* 2 counts */
+    {0x00, 2047, 2047}, {0x00, -2048, -2048},
+    {0x01, 0, 2},       {0x01, 2044, 2046},   {0x01, 2045, 2047},    {0x01, 2046, 2047},
+    {0x01, 2048, REFUSED}, {0x01, -2048, -2046}, {0x01, -2049, REFUSED},
+    {0x7F, 0, 254},     {0x7F, 1792, 2046},   {0x7F, 1793, 2047},    {0x7F, 1794, 2047},
+    {0x7F, 2047, 2047}, {0x7F, -2048, -1794}, {0x7F, -2049, REFUSED},
+    {0x80, 0, -256},    {0x80, -1791, -2047}, {0x80, -1792, -2048},  {0x80, -1793, -2048},
+    {0x80, -2048, -2048}, {0x80, 2047, 1791}, {0x80, 2048, REFUSED},
+    {0xFF, 0, -2},      {0xFF, -2045, -2047}, {0xFF, -2046, -2048},  {0xFF, -2047, -2048},
+    {0xFF, -2049, REFUSED}, {0xFF, 2047, 2045}, {0xFF, 2048, REFUSED},
+};
+
+static const struct stored at_16_g[] = { /* 1 count */
+    {0x00, 2047, 2047}, {0x00, -2048, -2048},
+    {0x01, 0, 1},       {0x01, 2045, 2046},   {0x01, 2046, 2047},    {0x01, 2047, 2047},
+    {0x01, 2048, REFUSED}, {0x01, -2048, -2047}, {0x01, -2049, REFUSED},
+    {0x7F, 0, 127},     {0x7F, 1919, 2046},   {0x7F, 1920, 2047},    {0x7F, 1921, 2047},
+    {0x7F, 2047, 2047}, {0x7F, -2048, -1921}, {0x7F, -2049, REFUSED},
+    {0x80, 0, -128},    {0x80, -1919, -2047}, {0x80, -1920, -2048},  {0x80, -1921, -2048},
+    {0x80, -2048, -2048}, {0x80, 2047, 1919}, {0x80, 2048, REFUSED},
+    {0xFF, 0, -1},      {0xFF, -2046, -2047}, {0xFF, -2047, -2048},  {0xFF, -2048, -2048},
+    {0xFF, -2049, REFUSED}, {0xFF, 2047, 2046}, {0xFF, 2048, REFUSED},
+};
+
+/* A row on one axis of a fresh twin; the others have no offset and are stored as they are given. */
+static void stored_on(unsigned range, int axis, const struct stored *row)
+{
+    struct peer t = fresh(0x0F, (uint8_t)range), before;
+    int given[3] = {100, -200, 300}, stored[3] = {100, -200, 300};
+    enum peer_answer wanted = row->stored == REFUSED ? PEER_OUTSIDE_12_BITS : PEER_DONE;
+
+    given[axis] = row->given;
+    stored[axis] = row->stored;
+    check(peer_write(&t, (uint8_t)(0x38 + axis), (uint8_t)row->byte) == 0, "an offset is accepted");
+    before = t;
+    check(peer_sample(&t, given[0], given[1], given[2], 7) == wanted,
+          "0F=%02X, %02X=%02X: given %d is answered %d", range, 0x38 + axis, row->byte, row->given,
+          wanted);
+    if (wanted != PEER_DONE)
+        check(same(&t, &before), "0F=%02X, given %d: nothing changes", range, row->given);
+    else
+        check(sample_at(&t, 0x02, stored[0], stored[1], stored[2]) && gives(&t, 0x08, "07") &&
+                  sample_at(&t, 0x3F, stored[0], stored[1], stored[2]),
+              "0F=%02X, %02X=%02X: given %d is stored as %d", range, 0x38 + axis, row->byte,
+              row->given, row->stored);
+}
+
+#define STORED(range, rows)                                                                        \
+    for (size_t i = 0; i < sizeof rows / sizeof *rows; i++)                                        \
+        for (int axis = 0; axis < 3; axis++)                                                       \
+            stored_on(range, axis, &rows[i])
+
+static void stored_by_hand(void)
+{
+    STORED(0x03, at_2_g);
+    STORED(0x05, at_4_g);
+    STORED(0x08, at_8_g);
+    STORED(0x0C, at_16_g);
+    STORED(0xF8, at_8_g); /* bits 7:4 of 0x0F are ignored */
+}
+
+/* The counts of an offset at a range of so many g: 2048 counts are that many, and a step is a 128th
+   of one. */
+static int offset_by_text(int g, int steps)
+{
+    return steps * (2048 / g) / 128;
+}
+
+static int stored_by_text(int g, int steps, int given)
+{
+    int count = given + offset_by_text(g, steps);
+
+    return count > 2047 ? 2047 : count < -2048 ? -2048 : count;
+}
+
+/* Each byte reads back as it was written, and moves each count to where the text says. */
+static void every_offset(void)
+{
+    static const struct {
+        uint8_t code;
+        int g;
+    } ranges[] = {{0x03, 2}, {0x05, 4}, {0x08, 8}, {0x0C, 16}};
+
+    for (int i = 0; i < 4; i++)
+        for (int byte = 0; byte < 256; byte++) {
+            struct peer t = fresh(0x0F, ranges[i].code);
+            int steps = byte > 127 ? byte - 256 : byte, apart = 0;
+
+            peer_write(&t, 0x39, (uint8_t)byte);
+            apart += !reads_as(&t, 0x39, (unsigned)byte) || !gives(&t, 0x38, "00");
+            for (int given = -2048; given <= 2047; given++) {
+                apart += peer_sample(&t, given, given, -1 - given, 0) != 0;
+                apart += !sample_at(&t, 0x3F, given, stored_by_text(ranges[i].g, steps, given),
+                                    -1 - given);
+            }
+            check(apart == 0, "0F=%02X, 39=%02X: %d apart", ranges[i].code, byte, apart);
+        }
+}
+
+/* A write to an offset changes only later samples; the step is that of the range at the sample. */
+static void offsets_and_samples(void)
+{
+    story("38=01 39=FE 3A=7F", "0,0,0 @8,-16,1016 >8,-16,1016 1,2,3 @9,-14,1019 >9,-14,1019");
+    story("38=80 39=81 3A=FF", "2047,-2048,-2041 @1023,-2048,-2048 38?80 39?81 3A?FF");
+    story("3E=40", "1,2,3 38=01 39=02 3A=03 @1,2,3 1,2,3 @9,18,27 38=FF @9,18,27 1,2,3 @-7,18,27 "
+                   "39=00 3A=80 >1,2,3 >9,18,27 >-7,18,27 >0,0,0 1,2,3 >-7,2,-1021");
+    story("3E=80 38=7F", "2047,0,0 1031,0,0 1030,0,0 38=00 >2047,0,0 >2047,0,0 >2046,0,0 0E?00");
+    story("38=01 39=80 3A=7F", "0,0,0 @8,-1024,1016 0F=05 @8,-1024,1016 0,0,0 @4,-512,508 0F=08 "
+                               "0,0,0 @2,-256,254 0F=0C 0,0,0 @1,-128,127 0F=04!2 0,0,0 @1,-128,127 "
+                               "0F=F3 0,0,0 @8,-1024,1016 38?01 39?80 3A?7F");
+    story("3E=40 38=FF", "0,0,0 0F=05 0,0,0 0F=0C 0,0,0 0F=08 >-8,0,0 >-4,0,0 >-1,0,0 0,0,0 >-2,0,0");
+    story("0F=0C 38=7F 0F=03", "0,0,0 @1016,0,0"); /* not that of the range at the write */
+    /* a soft reset ends them; no other byte at 0x14 does, nor does what 0x36 refuses or ignores */
+    story("38=01 39=80 3A=7F 3B=11 3C=22", "14=B5 0,0,0 @8,-1024,1016 14=B6 38?00 39?00 3A?00 3B?11 "
+                                           "3C?22 @0,0,0 1,2,3 @1,2,3 >1,2,3");
+    story("0F=0C 38=01", "14=B6 38=01 0,0,0 @8,0,0"); /* at 2 g again */
+    story("38=01 39=80 3A=7F", "36=80!13 36=40!13 36=20!13 36=E0!13 36=04!13 36=02!13 36=01!13 "
+                               "36=90!13 36=88!13 36=10 36=18 36=08 36=00 36?10 37=7F 38?01 39?80 "
+                               "3A?7F 0,0,0 @8,-1024,1016");
+    /* what is refused leaves the sample before, in channels and frames */
+    story("38=80", "2047,0,0 @1023,0,0 2048,0,0!4 3071,0,0!4 0,2048,0!4 @1023,0,0 >1023,0,0 0E?00");
+    story("38=7F", "-2048,0,0 -2049,0,0!4 -3064,0,0!4 0,0,-2049!4 @-1032,0,0 >-1032,0,0 0E?00");
+}
+
+/* Frames of one axis, and a lock from before the write. */
+static void offsets_and_bytes(void)
+{
+    struct peer t = fresh(0x3E, 0x82);
+
+    peer_write(&t, 0x38, 0x7F);
+    peer_sample(&t, 0, -1, 5, 0);
+    peer_write(&t, 0x39, 0x01);
+    peer_sample(&t, 0, -1, 5, 0);
+    peer_write(&t, 0x39, 0xFF);
+    peer_sample(&t, 0, -2041, 5, 0);
+    check(gives(&t, 0x3F, "F1FF71000180"), "frames of y: -1, 7, -2048");
+    check(gives(&t, 0x02, "813F0180510000"), "x 1016, y -2048, z 5");
+    check(gives(&t, 0x04, "00") && peer_write(&t, 0x39, 0x7F) == 0, "y is locked, its offset written");
+    peer_sample(&t, 0, 0, 5, 0);
+    check(gives(&t, 0x05, "80") && gives(&t, 0x05, "3F"), "the locked byte, then that of y 1016");
+}
+
+/* "the jump is a slope like any other": any-motion on x, over above 4 or, with 28=02, above 8. */
+static void offsets_and_any_motion(void)
+{
+    story(ANY, "0,0,0 38=01 ?00 0,0,0 09?04 0B?01 0,0,0 09?00");
+    story(ANY "28=02", "0,0,0 38=01 0,0,0 ?00 38=00 0,0,0 ?00"); /* 8 */
+    story(ANY "28=02", "0,0,0 38=01 1,0,0 09?04 0B?01");         /* 9 */
+    story(ANY "28=02", "0,0,0 38=FF 0,0,0 ?00 38=FE -1,0,0 09?04 0B?09");
+    story(ANY "28=FE", "0,0,0 38=7F 0,0,0 ?00 38=FF 0,0,0 09?04 0B?09"); /* 1016, 1024 */
+    story(ANY "28=FF", "0,0,0 38=7F 4,0,0 ?00");                         /* 1020 */
+    story(ANY "28=FF", "0,0,0 38=7F 5,0,0 09?04 0B?01");                 /* 1021 */
+    story(ANY "0F=05", "0,0,0 38=01 0,0,0 ?00 38=FF 0,0,0 09?04 0B?09"); /* 4, 8 */
+    story(ANY "0F=08", "0,0,0 38=02 0,0,0 ?00 38=05 0,0,0 09?04 0B?01"); /* 4, 6 */
+    story(ANY "0F=0C", "0,0,0 38=04 0,0,0 ?00 38=FF 0,0,0 09?04 0B?09"); /* 4, 5 */
+    story(ANY "16=02", "0,0,0 38=7F 3A=80 0,0,0 ?00 39=01 0,0,0 09?04 0B?02");
+    story(ANY "16=04", "0,0,0 38=7F 39=80 0,0,0 ?00 3A=FF 0,0,0 09?04 0B?0C");
+    story(ANY "16=07", "0,0,0 39=01 3A=80 0,0,0 09?04 0B?02"); /* y before z */
+    /* between two samples what counts is how they are stored */
+    story(ANY "28=00", "0,0,0 38=01 -8,0,0 ?00 38=FF 8,0,0 ?00 38=00 0,0,0 ?00 1,0,0 09?04 0B?01");
+    story(ANY "28=00", "0,0,0 38=7F ?00 38=00 0,0,0 ?00"); /* to and fro is no point */
+    story(ANY "28=00 38=01", "0,0,0 38=00 8,0,0 ?00 0,0,0 09?04 0B?09");
+    story(ANY "28=00 38=7F", "0,0,0 2047,0,0 09?04 1031,0,0 ?00 1500,0,0 ?00 1030,0,0 09?04 0B?09");
+    story(ANY "28=00 38=80", "-2048,0,0 -1024,0,0 ?00 -1023,0,0 09?04 0B?01");
+    story(ANY "28=02", "2039,0,0 38=02 2039,0,0 ?00 38=7F 2047,0,0 ?00"); /* held after 8 of 16 */
+    story(ANY "28=02", "2038,0,0 38=02 2038,0,0 09?04 0B?01");            /* after 9 */
+    story(ANY "28=FF 38=7F", "2047,0,0 38=80 -2048,0,0 09?04 0B?09 38=7F 2047,0,0 09?04 -6,0,0 09?04 "
+                             "10,0,0 09?00"); /* -4095, 4095, -1037, 16 */
+    /* what is refused is no sample before */
+    story(ANY "28=00", "0,0,0 38=80 2048,0,0!4 38=00 0,0,0 ?00");
+    /* 0x0F forgets the sample before, and so does a soft reset */
+    story(ANY "38=01", "0,0,0 0F=0C 0,0,0 ?00 0F=03 0,0,0 ?00 0,0,0 ?00");
+    story(ANY "38=7F", "0,0,0 14=B6 16=01 28=01 0,0,0 ?00 5,0,0 09?04");
+}
+
+/* "a write to 0x38..0x3A restarts nothing", of the same byte or another: status, marks, runs, what is
+   left of a time, and the sample before. */
+static void offsets_restart_nothing(void)
+{
+    story(ANY "27=01", "0,0,0 5,0,0 38=01 ?00 5,0,0 09?04 0B?01"); /* the jump is the second over */
+    story(ANY "27=01", "0,0,0 5,0,0 39=7F 3A=80 38=00 10,0,0 09?04 0B?01");
+    story(ANY "27=01", "0,0,0 5,0,0 10,0,0 09?04 10,0,0 38=01 09?04 0B?01 2,0,0 09?00");
+    story(ANY "21=07", "0,0,0 -5,0,0 09?04 38=01 39=FF 3A=00 09?04 0B?09 -13,0,0 09?04 0B?09");
+    story(ANY "21=09", "0,0,0 5,0,0 09?04 +249 38=01 09?04 0B?01 +1 09?00");
+    story(SLOW_2, "0,0,0 5,0,0 38=01 5,0,0 ?08 38=01 ?08 5,0,0 38=7F ?08 -1003,0,0 ?00");
+    story(SLOW " 21=0A", "0,0,0 38=01 0,0,0 ?08 +499 38=80 39=01 ?08 +1 ?00");
+    story(STILL, "0,0,0 +999999 38=01 +1 -8,0,0 ?08 38=00 ?08 0,0,0 ?08");
+    story(STILL, "+999999 39=80 38=00 0,0,0 +1 0,0,0 ?08");
+    story(STILL " 21=09", SET_STILL " +249 38=01 ?08 +1 ?00 +999999 -8,0,0 ?00 +1 -8,0,0 ?08");
+    story(BOTH, SET_BOTH " 38=00 39=01 3A=00 ?03/0A 0,-13,0 ?03/0A 0,-8,0 ?01/08");
+    story(BOTH, "0,-5,0 +1999 39=FF +1 0,3,0 ?03/0A");
+    story(BOTH " 21=09", SET_BOTH " +249 39=01 38=7F ?03/0A +1 ?00/08");
+    story(BOTH " 21=07", SET_BOTH " 39=01 ?03/0A 0,-8,0 ?03/0A");
+}
+
+/* Slow motion and no-motion on x: 4 is calm, 5 is over. */
+static void offsets_and_slow_motion(void)
+{
+    story(SLOW, "0,0,0 38=01 0,0,0 ?08 0,0,0 ?00");
+    story(SLOW " 29=02", "0,0,0 38=FF 0,0,0 ?00 38=00 1,0,0 ?08"); /* 8, 9 */
+    story(SLOW " 0F=0C", "0,0,0 38=04 0,0,0 ?00 38=FF 0,0,0 ?08");
+    story(SLOW " 18=02", "0,0,0 38=7F 3A=80 0,0,0 ?00 39=80 0,0,0 ?08");
+    story(SLOW " 29=00 38=7F", "1031,0,0 2047,0,0 ?00 38=00 2047,0,0 ?00 2046,0,0 ?08");
+    story(SLOW, "0,0,0 38=01 -8,0,0 ?00 -4,0,0 ?00 1,0,0 ?08");
+    story(STILL, "0,0,0 +1000000 38=01 0,0,0 ?00 +999999 0,0,0 ?00 +1 0,0,0 ?08 38=00 0,0,0 ?00");
+    story(STILL " 0F=08", "0,0,0 +1000000 38=02 0,0,0 ?08 38=FF 0,0,0 ?00"); /* 4, 6 */
+    story(STILL " 0F=0C", "0,0,0 +1000000 38=FC 0,0,0 ?08 38=01 0,0,0 ?00"); /* 4, 5 */
+    story(STILL " 29=00", "2047,0,0 +1000000 38=7F 2047,0,0 ?08 38=80 2047,0,0 ?00");
+    story(STILL " 18=0C", "0,0,0 +1000000 38=7F 39=7F 0,0,0 ?08 3A=01 0,0,0 ?00");
+}
+
+/* Low-g below 48 counts at 2 g, which are 6 steps at any range; high-g above 48 of the range. */
+static void offsets_and_g(void)
+{
+    static const char *const ranges[] = {"0F=03", "0F=05", "0F=08", "0F=0C"};
+
+    EACH_WRITE(LOW " 38=06", "%s -1,0,0 +2000 -1,0,0 ?01/00 38=07 -1,0,0 ?00/00", ranges);
+    EACH_WRITE(LOW " 38=06", "%s 0,0,0 +2000 0,0,0 ?00/00", ranges);
+    EACH_WRITE(LOW " 3A=FA", "%s 0,0,1 +2000 0,0,1 ?01/00", ranges);
+    EACH_WRITE(LOW " 3A=FA", "%s 0,0,0 +2000 0,0,0 ?00/00", ranges);
+    EACH_WRITE(LOW_SUM " 38=02 39=FE 3A=02", "%s 0,0,0 +2000 0,0,0 ?00/00", ranges);
+    EACH_WRITE(LOW_SUM " 38=02 39=FE 3A=02", "%s 0,1,0 +2000 0,0,-1 ?01/00", ranges);
+    story(LOW " 39=FA", "0,95,0 +2000 0,95,0 ?01/00 0,96,0 ?00/00");
+    story(LOW, "0,0,0 +1000 38=06 0,0,0 38=00 +1000 0,0,0 ?00/00"); /* one sample between is not low */
+    story(LOW, "0,0,0 +1000 38=06 38=00 +1000 0,0,0 ?01/00 38=06 ?01/00 0,0,0 ?00/00");
+    story(LOW " 24=01 38=05", "7,0,0 +2000 7,0,0 ?01/00 135,0,0 ?01/00 136,0,0 ?00/00"); /* 176 clears */
+    story(HIGH("01") " 38=06", "0,0,0 +2000 0,0,0 ?00/00 1,0,0 +2000 1,0,0 ?02/01 0,0,0 ?00/00");
+    story(HIGH("02") " 39=FA", "0,0,0 +2000 0,0,0 ?00/00 0,-1,0 +2000 0,-1,0 ?02/0A");
+    story(HIGH("04") " 3A=01 38=7F 39=80", "0,0,40 +2000 0,0,40 ?00/00 0,0,41 +2000 0,0,41 ?02/04");
+    story(HIGH("01") " 38=FF", "56,0,0 +2000 56,0,0 ?00/00 57,0,0 +2000 57,0,0 ?02/01");
+    story(HIGH("01") " 0F=0C 38=30", "0,0,0 +2000 0,0,0 ?00/00 1,0,0 +2000 1,0,0 ?02/01");
+    /* the sign is that of the stored sample */
+    story(HIGH("01") " 38=F0", "5,0,0 +2000 5,0,0 ?02/09");
+    story(HIGH("01") " 38=10", "-5,0,0 +2000 -5,0,0 ?02/01");
+    story(HIGH("07"), "0,0,0 38=07 0,0,0 +2000 39=80 38=00 0,0,0 ?02/0A 39=00 ?02/0A 0,0,0 ?00/08");
+    /* held at 2047 and -2048, whose size is 2048 */
+    story(HIGH("01") " 26=FF 38=7F", "1025,0,0 +2000 2047,0,0 ?02/01 1024,0,0 ?00/00");
+    story(HIGH("01") " 26=FF 38=80", "-1016,0,0 +2000 -1016,0,0 ?00/00 -1017,0,0 +2000 -2048,0,0 ?02/09");
+    story(LOW " 23=F0 24=01 38=80", "0,0,0 +2000 0,0,0 ?01/00 -1023,0,0 ?01/00 -1500,0,0 ?00/00");
+}
+
+/* ---- offsets against the text ---- */
+
+/* A twin with offsets, and one without to which the stored samples are given as the text says. */
+struct pair {
+    struct peer with, plain;
+    int steps[3], g, given[3];
+    int apart;                             /* events that part them */
+    int held, brought_in, jumps, statuses; /* seen */
+};
+
+static void write_pair(struct pair *p, int address, int byte)
+{
+    unsigned answer = peer_write(&p->with, (uint8_t)address, (uint8_t)byte);
+
+    p->apart += peer_write(&p->plain, (uint8_t)address, (uint8_t)byte) != answer;
+}
+
+/* Near an end of the 12 bits as it is given or stored, the same as before, or a small one. */
+static int pair_count(const struct pair *p, int axis)
+{
+    int end = draw(2) ? 2047 : -2048, beside = (int)draw(3) - 1;
+
+    switch (draw(8)) {
+    case 0:
+        return end + beside;
+    case 1:
+    case 2:
+        return end - offset_by_text(p->g, p->steps[axis]) + beside;
+    case 3:
+        return (int)draw(65) - 32;
+    default:
+        return p->given[axis];
+    }
+}
+
+/* Where one given count is outside, the answer is 4 and nothing changes, whatever would be stored. */
+static void pair_sample(struct pair *p)
+{
+    int given[3], stored[3];
+    bool outside = false, in = true;
+
+    for (int axis = 0; axis < 3; axis++) {
+        given[axis] = pair_count(p, axis);
+        stored[axis] = stored_by_text(p->g, p->steps[axis], given[axis]);
+        outside |= given[axis] < -2048 || given[axis] > 2047;
+        in &= stored[axis] == given[axis] + offset_by_text(p->g, p->steps[axis]);
+    }
+    p->apart += peer_sample(&p->with, given[0], given[1], given[2], 9) != (outside ? 4 : 0);
+    p->brought_in += outside && in;
+    if (outside)
+        return;
+    p->held += !in;
+    memcpy(p->given, given, sizeof given);
+    peer_sample(&p->plain, stored[0], stored[1], stored[2], 9);
+}
+
+static void pair_offset(struct pair *p)
+{
+    static const int edges[] = {0x00, 0x01, 0x02, 0x7F, 0x80, 0x81, 0xFF};
+    int axis = (int)draw(3), byte = draw(2) ? (int)draw(256) : edges[draw(7)];
+    int steps = byte > 127 ? byte - 256 : byte;
+
+    p->apart += peer_write(&p->with, (uint8_t)(0x38 + axis), (uint8_t)byte) != 0;
+    p->apart += !reads_as(&p->with, 0x38 + (unsigned)axis, (unsigned)byte);
+    p->jumps += p->steps[axis] != steps;
+    p->steps[axis] = steps;
+}
+
+/* Settings in which most jumps and small samples are near a threshold. */
+static void pair_settings(struct pair *p)
+{
+    static const int codes[] = {0x03, 0x05, 0x08, 0x0C}, bytes[] = {0, 1, 2, 6, 32, 128, 254, 255};
+    static const int thresholds[] = {0x23, 0x26, 0x28, 0x29};
+    unsigned range = draw(4);
+
+    write_pair(p, 0x0F, codes[range]);
+    p->g = 2 << range;
+    for (int i = 0; i < 4; i++)
+        write_pair(p, thresholds[i], bytes[draw(8)]);
+    write_pair(p, 0x22, 0);
+    write_pair(p, 0x25, 0);
+    write_pair(p, 0x24, (int)draw(256));
+    write_pair(p, 0x27, (int)draw(8));
+    write_pair(p, 0x21, (int)(draw(2) ? 0 : draw(16)));
+    write_pair(p, 0x16, (int)draw(8));
+    write_pair(p, 0x17, (int)draw(128));
+    write_pair(p, 0x18, (int)draw(16));
+    write_pair(p, 0x3E, (int)draw(192));
+}
+
+static void pair_read(struct pair *p)
+{
+    static const uint8_t reads[][2] = {{0x02, 6}, {0x02, 1}, {0x05, 1}, {0x3F, 6}, {0x3F, 20}, {0x3F, 2}};
+    const uint8_t *read = reads[draw(6)];
+    uint8_t bytes[20], others[20];
+
+    peer_read(&p->with, read[0], bytes, read[1]);
+    peer_read(&p->plain, read[0], others, read[1]);
+    p->apart += memcmp(bytes, others, read[1]) != 0;
+}
+
+/* What else may come: a clock, a read, a refused write, and now and then a soft reset. */
+static void pair_other(struct pair *p)
+{
+    static const uint32_t times[] = {250, 2 * MS, 500 * MS, 1 * S};
+    uint32_t time = times[draw(4)];
+
+    switch (draw(8)) {
+    case 0:
+        write_pair(p, 0x36, 0x80);
+        break;
+    case 1:
+        if (draw(8))
+            break;
+        write_pair(p, 0x14, 0xB6);
+        memset(p->steps, 0, sizeof p->steps);
+        p->g = 2;
+        break;
+    case 2:
+    case 3:
+        pair_read(p);
+        break;
+    default:
+        peer_clock(&p->with, time);
+        peer_clock(&p->plain, time);
+        break;
+    }
+}
+
+/* Whether they are the same in all but 0x38 to 0x3A, which hold what was written. */
+static bool pair_agrees(struct pair *p)
+{
+    struct peer without = p->with;
+    bool written = true;
+
+    for (int axis = 0; axis < 3; axis++) {
+        written &= p->with.reg[0x38 + axis] == (p->steps[axis] & 0xFF);
+        without.reg[0x38 + axis] = 0x00;
+    }
+    return written && same(&without, &p->plain);
+}
+
+static void offsets_at_random(void)
+{
+    struct pair p = {.g = 2};
+
+    peer_power_up(&p.with);
+    p.plain = p.with;
+    for (int turn = 0; turn < 3000; turn++) {
+        pair_settings(&p);
+        for (int i = 0; i < 60; i++) {
+            unsigned choice = draw(8);
+            uint8_t status;
+
+            if (choice < 4)
+                pair_sample(&p);
+            else if (choice < 6)
+                pair_offset(&p);
+            else
+                pair_other(&p);
+            p.apart += !pair_agrees(&p);
+            peer_read(&p.with, 0x09, &status, 1);
+            p.statuses |= status;
+        }
+    }
+    check(p.apart == 0, "offsets: %d events at random part the twin from the text", p.apart);
+    check(p.held > 1000 && p.brought_in > 1000 && p.jumps > 1000 && p.statuses == 0x0F,
+          "held %d, refused though brought in %d, jumps %d, statuses %X", p.held, p.brought_in,
+          p.jumps, p.statuses);
+}
+
+static void offsets(void)
+{
+    stored_by_hand();
+    every_offset();
+    offsets_and_samples();
+    offsets_and_bytes();
+    offsets_and_any_motion();
+    offsets_restart_nothing();
+    offsets_and_slow_motion();
+    offsets_and_g();
+    offsets_at_random();
+}
+
 /* ---- programs ---- */
 
 static const char *replay_command = "./replay", *answer_command = "./answer";
@@ -2778,7 +3268,7 @@ static void refusals_go_on(void)
     replay("01 00 03 01 16 80 00 03 01 17 01 00 03 01 18 0C 00 03 01 11 C0 00 03 01 32 05"
            "00 03 01 33 02 00 03 01 36 80 00 03 01 3A 01 00 03 01 21 89 00 03 02 16 03"
            "00 03 01 18 08 00 03 01 21 88 00 03 02 18 01 00 03 02 21 01",
-           "1 11\n2 0\n3 0\n4 12\n5 13\n6 13\n7 13\n8 13\n9 0\n10 0 00010C\n11 0\n12 0\n"
+           "1 11\n2 0\n3 0\n4 12\n5 13\n6 13\n7 13\n8 0\n9 0\n10 0 00010C\n11 0\n12 0\n"
            "13 0 08\n14 0 08\npins 0 0\n");
     replay("01 00 03 01 18 08 00 03 01 27 58 00 03 02 27 01 00 03 01 18 07 00 03 01 27 58"
            "00 03 01 18 08 00 03 02 18 01 00 03 02 27 01",
@@ -2847,6 +3337,18 @@ static void clock_log(void)
            MARKS, FIVE_DONE "6 0\n7 0\n8 0 040009\n9 0\n10 0 000008\npins 0 0\n");
 }
 
+/* Offsets of 8, -1024 and 1016: 2040 and -1025 are held, 2048 is refused. What is read is stored. */
+#define OFFSETS "01 00 03 01 38 01 00 03 01 39 80 00 03 01 3A 7F 00 08 03 07 F8 FB FF 00 00 19"
+
+static void offset_log(void)
+{
+    replay(OFFSETS "00 08 03 08 00 00 00 00 00 00 00 03 02 02 07 00 03 02 3F 06 00 03 02 38 03",
+           "1 0\n2 0\n3 0\n4 0\n5 4\n6 0 F17F0180813F19\n7 0 F17F0180813F\n8 0 01807F\npins 0 0\n");
+    replay(OFFSETS "00 03 01 36 80 00 03 01 14 B6 00 03 02 38 03 00 08 03 07 F8 FB FF 00 00 19"
+           "00 03 02 02 06",
+           "1 0\n2 0\n3 0\n4 0\n5 13\n6 0\n7 0 000000\n8 0\n9 0 817FF1BF0100\npins 0 0\n");
+}
+
 /* The pins as they are behind each record, and at a stop behind the last one before it. */
 static void pins_behind_each(void)
 {
@@ -2897,6 +3399,7 @@ static void replays(void)
     watermark_log();
     clock_lengths();
     clock_log();
+    offset_log();
     pins_behind_each();
     blocks();
 }
@@ -3271,9 +3774,7 @@ static void refused_writes(void)
                    "record 11 wrote 01 to 32 and was refused 13\n"
                    "record 12 wrote 02 to 33 and was refused 13\n"
                    "record 13 wrote 80 to 36 and was refused 13\n"
-                   "record 14 wrote 01 to 38 and was refused 13\n"
-                   "record 15 wrote FF to 3A and was refused 13\n"
-                   "records 1 to 21: " NONE_LOST ", 15 refused\n" NO_READOUT
+                   "records 1 to 21: " NONE_LOST ", 13 refused\n" NO_READOUT
                    "the log ends after record 21\n");
     answers("1 7", "from record 2: 2g\n"
                    "from record 2: BYPASS, 1 frame\n"
@@ -3485,6 +3986,16 @@ static void clocks_in_between(void)
     answers("", "1 1 2g 0 0 0 0 0 0 rest\nstop 2 8\n");
 }
 
+/* The values of a sample are the given ones, whatever is stored of them. */
+static void given_samples(void)
+{
+    begin_log(OFFSETS "00 08 03 00 01 00 02 00 03 00");
+    answers("samples", "sample 4 2040 -1025 0 0 0\n"
+                       "sample 5 1 2 3 1 1\n"
+                       "1 5 2g 2 0 1 0 1 0 rest BYPASS\n"
+                       "end 5\n");
+}
+
 /* ---- logs that stop ---- */
 
 static void no_records(void)
@@ -3610,6 +4121,7 @@ static void answer_texts(void)
     losses_in_lines(0x80, "STREAM", "1 32");
     readouts_or_none();
     clocks_in_between();
+    given_samples();
     no_records();
     damaged();
 }
@@ -3637,6 +4149,7 @@ int main(int count, char **argument)
     latch_times();
     low_and_high_g();
     slow_and_no_motion();
+    offsets();
     replays();
     account_and_twin();
     which_was_lost();

@@ -55,6 +55,8 @@ struct log {
     bool no_readouts;   /* 0x02 to 0x07 are read instead */
     bool ended;         /* nothing more is written */
     uint64_t bytes;     /* written so far */
+    int steps[AXES];    /* the signed bytes of 0x38 to 0x3A, by the records so far */
+    int step;           /* the counts of one of them at the range, by the records so far */
     struct form_of other;
 };
 
@@ -275,11 +277,34 @@ static void put_formed(struct log *l, const uint8_t *body, int length)
     l->other.state = draws.state;
 }
 
+static int signed_byte(int byte)
+{
+    return byte < 0x80 ? byte : byte - 0x100;
+}
+
+/* What an accepted write says of the offsets of the samples that come. */
+static void note_offsets(struct log *l, const uint8_t *body)
+{
+    static const int step[] = {[0x3] = 8, [0x5] = 4, [0x8] = 2, [0xC] = 1, [0xF] = 0};
+
+    if (body[0] != 1)
+        return;
+    if (body[1] == 0x0F && step[body[2] & 0x0F] > 0)
+        l->step = step[body[2] & 0x0F];
+    if (body[1] >= 0x38 && body[1] <= 0x3A)
+        l->steps[body[1] - 0x38] = signed_byte(body[2]);
+    if (body[1] == 0x14 && body[2] == 0xB6) {
+        l->step = 8;
+        memset(l->steps, 0, sizeof l->steps);
+    }
+}
+
 static void put_record(struct log *l, const uint8_t *body, int length)
 {
     if (l->left == 0)
         return;
     l->left--;
+    note_offsets(l, body);
     if (l->undamaged-- == 0) {
         end_form(l);
         put_damaged(l, body, length);
@@ -364,6 +389,68 @@ static void put_outside_sample(struct log *l)
     axis = below(l, AXES);
     sample[axis] = PICK(l, 2047, -2048, -2049, 2048);
     put_sample(l, sample);
+}
+
+static int within_12_bits(int count)
+{
+    return count < -2048 ? -2048 : count > 2047 ? 2047 : count;
+}
+
+static int offset(const struct log *l, int axis)
+{
+    return l->steps[axis] * l->step;
+}
+
+static int stored(const struct log *l, int axis, int given)
+{
+    return within_12_bits(given + offset(l, axis));
+}
+
+/* Puts the sample of which this one is stored, or the nearest that there is, and gives what is stored
+   of it. What is to be stored at an end of the 12 bits is held there, one in two. */
+static void put_stored(struct log *l, int sample[AXES])
+{
+    int given[AXES];
+
+    for (int axis = X; axis < AXES; axis++) {
+        bool end = sample[axis] == -2048 || sample[axis] == 2047;
+
+        given[axis] = within_12_bits(sample[axis] - offset(l, axis));
+        if (end && one_in(l, 2) && stored(l, axis, sample[axis]) == sample[axis])
+            given[axis] = sample[axis];
+        sample[axis] = stored(l, axis, given[axis]);
+    }
+    put_sample(l, given);
+}
+
+static int any_offset(struct log *l)
+{
+    int any = below(l, 256);
+
+    return one_in(l, 3) ? any : PICK(l, 0x00, 0x01, 0x02, 0x7E, 0x7F, 0x80, 0x81, 0xFE, 0xFF);
+}
+
+static void put_any_offset(struct log *l)
+{
+    int axis = below(l, AXES);
+    int byte = any_offset(l);
+
+    put_write(l, 0x38 + axis, byte);
+}
+
+/* For the samples of a scene: none, others or those that there are. */
+static void set_offsets(struct log *l)
+{
+    int choice = below(l, 4);
+
+    for (int axis = X; axis < AXES; axis++) {
+        int byte = any_offset(l);
+
+        if (choice == 0)
+            put_write(l, 0x38 + axis, byte);
+        else if (choice < 3 && l->steps[axis] != 0)
+            put_write(l, 0x38 + axis, 0x00);
+    }
 }
 
 static int any_length(struct log *l)
@@ -590,14 +677,14 @@ static int byte_at_edge(struct log *l, int refused)
     }
 }
 
-/* Settings that the twin lacks, and their neighbours, with 0x17 and 0x18, of which it lacks none any
-   more. A byte that was stored shows in the reads. */
+/* Settings that the twin lacks, and their neighbours, with 0x17, 0x18 and 0x38 to 0x3A, of which it
+   lacks none any more. A byte that was stored shows in the reads. */
 static void lack_scene(struct log *l)
 {
     static const struct {
         int address, refused;
     } row[] = {{0x11, 0xE0}, {0x16, 0xF0}, {0x17, 0x00}, {0x18, 0x00}, {0x32, 0x03},
-               {0x33, 0x0B}, {0x36, 0xE7}, {0x38, 0xFF}, {0x39, 0xFF}, {0x3A, 0xFF}};
+               {0x33, 0x0B}, {0x36, 0xE7}, {0x38, 0x00}, {0x39, 0x00}, {0x3A, 0x00}};
     int turns = 3 + below(l, 6);
 
     while (turns-- > 0) {
@@ -880,7 +967,7 @@ static void watermark_scene(struct log *l)
 
 struct setup {
     int enable, threshold, count, latch;
-    int at[AXES];
+    int at[AXES]; /* the stored sample before */
 };
 
 /* The microseconds for which a byte in 0x21 holds a status; 0 for the codes without a time. */
@@ -933,6 +1020,7 @@ static void set_motion(struct log *l, struct setup *s, int latch)
     int others = one_in(l, 3) ? below(l, 64) << 2 : 0; /* of slow motion, with which any goes */
     int slow = one_in(l, 3) ? below(l, 8) : 0;
 
+    set_offsets(l);
     put_write(l, 0x18, slow);
     s->enable = one_in(l, 12) ? 0 : 1 + below(l, 7);
     s->threshold = PICK(l, 0, 1, 2, 5, 20, 100, 254, 255);
@@ -957,17 +1045,19 @@ static void move(struct log *l, struct setup *s, int axis, bool over)
     else if (!over && size > 0 && one_in(l, 2))
         size--;
     next = one_in(l, 2) ? s->at[axis] + size : s->at[axis] - size;
-    if (next > 2047)
+    if (next > stored(l, axis, 2047))
         next = s->at[axis] - size;
-    if (next < -2048)
+    if (next < stored(l, axis, -2048))
         next = s->at[axis] + size;
-    s->at[axis] = next;
+    s->at[axis] = within_12_bits(next);
 }
 
-/* Gives one point: over on at least one enabled axis, or calm. Other axes move as they like. */
-static void put_point(struct log *l, struct setup *s, bool over)
+/* Puts one point: over on at least one enabled axis, or calm. Other axes move as they like. Gives
+   whether it is over: an offset may leave no sample that isn't. */
+static bool put_point(struct log *l, struct setup *s, bool over)
 {
     int chosen = below(l, AXES);
+    int before[AXES] = {s->at[X], s->at[Y], s->at[Z]};
 
     while ((s->enable & 7) != 0 && !(s->enable >> chosen & 1))
         chosen = (chosen + 1) % AXES;
@@ -977,7 +1067,11 @@ static void put_point(struct log *l, struct setup *s, bool over)
 
         move(l, s, axis, over ? axis == chosen || chance : !enabled && chance);
     }
-    put_sample(l, s->at);
+    put_stored(l, s->at);
+    for (int axis = X; axis < AXES; axis++)
+        if (s->enable >> axis & 1 && abs(s->at[axis] - before[axis]) > 4 * s->threshold)
+            return true;
+    return false;
 }
 
 static void disturb_motion(struct log *l, struct setup *s)
@@ -986,7 +1080,7 @@ static void disturb_motion(struct log *l, struct setup *s)
     int detector = PICK(l, 0x10, 0x20, 0x40, 0x80);
     int latch = any_latch(l);
 
-    switch (below(l, 9)) {
+    switch (below(l, 11)) {
     case 0:
         put_write(l, 0x16, s->enable);
         break;
@@ -1015,6 +1109,9 @@ static void disturb_motion(struct log *l, struct setup *s)
     case 8:
         put_cycle_start(l);
         break;
+    default:
+        put_any_offset(l);
+        break;
     }
 }
 
@@ -1026,7 +1123,7 @@ static void motion_scene(struct log *l)
     bool over = false;
 
     set_motion(l, &s, latch);
-    put_sample(l, s.at);
+    put_stored(l, s.at);
     while (points-- > 0) {
         if (run-- == 0) {
             over = !over;
@@ -1073,15 +1170,14 @@ static void begin_holding(struct log *l, struct holding *h)
     put_write(l, 0x0F, range); /* forgets the sample before: the first one gives no point */
     set_motion(l, &h->setup, latch);
     h->needed = (h->setup.count & 3) + 1;
-    put_sample(l, h->setup.at);
+    put_stored(l, h->setup.at);
     see_restart(h);
 }
 
 static void put_points(struct log *l, struct holding *h, int points, bool over)
 {
     while (points-- > 0) {
-        put_point(l, &h->setup, over);
-        h->run = over ? h->run + 1 : 0;
+        h->run = put_point(l, &h->setup, over) ? h->run + 1 : 0;
         if (h->left == 0 && h->run >= h->needed)
             h->left = hold_time(h->setup.latch);
     }
@@ -1107,7 +1203,7 @@ static void stir(struct log *l, struct holding *h)
     int map = PICK(l, 0x04, 0x04, 0xFB, 0x00);
     int other = PICK(l, 0x13, 0x17, 0x18, 0x1A, 0x22, 0x26, 0x29, 0x30, 0x3E);
 
-    switch (below(l, 9)) {
+    switch (below(l, 10)) {
     case 0:
     case 1:
         put_points(l, h, points, true);
@@ -1130,6 +1226,9 @@ static void stir(struct log *l, struct holding *h)
         break;
     case 8:
         put_write(l, other, 0x40);
+        break;
+    case 9:
+        put_any_offset(l);
         break;
     }
     put_read(l, 0x09, 3);
@@ -1415,11 +1514,11 @@ static void put_g_sample(struct log *l, struct g_setup *g, int which, enum place
         low_sizes(l, g, place, size);
     else
         high_sizes(l, g, place, size);
-    for (int axis = X; axis < AXES; axis++) {
+    for (int axis = X; axis < AXES; axis++)
         sample[axis] = count_of_size(l, size[axis]);
+    put_stored(l, sample);
+    for (int axis = X; axis < AXES; axis++)
         size[axis] = abs(sample[axis]);
-    }
-    put_sample(l, sample);
     if (g->enable & 8)
         see_sample(g, LOW, is_low(g, size));
     if (g->enable & 7)
@@ -1506,7 +1605,7 @@ static void put_setup(struct log *l, struct g_setup *g)
     see_g_restart(g);
 }
 
-/* One in three can fall and be hit at once; of one in twelve -2048 is the size that clears low-g. */
+/* One in three can fall and be hit at once; of one in eight -2048 is the size that clears low-g. */
 static void set_g(struct log *l, struct g_setup *g)
 {
     bool both = one_in(l, 3);
@@ -1525,12 +1624,13 @@ static void set_g(struct log *l, struct g_setup *g)
         g->threshold[HIGH] = PICK(l, 0, 1, 3);
         g->enable |= 0x08;
     }
-    if (one_in(l, 12)) {
+    if (one_in(l, 8)) {
         g->range = 0x03;
         g->mode = (g->mode & ~3) | steps;
         g->threshold[LOW] = (2048 - 128 * steps) / 8;
         g->enable |= 0x08;
     }
+    set_offsets(l);
     put_setup(l, g);
 }
 
@@ -1543,10 +1643,10 @@ static void stir_g(struct log *l)
                  {0x16, 0x17}, {0x18, 0x08}, {0x18, 0x0F}, {0x19, 0x01}, {0x19, 0x02}, {0x19, 0xFC},
                  {0x1A, 0xFF}, {0x1B, 0x01}, {0x1B, 0x02}, {0x1B, 0x07}, {0x1E, 0x3F}, {0x20, 0x0A},
                  {0x20, 0x05}, {0x27, 0x01}, {0x28, 0x01}, {0x29, 0x00}, {0x30, 0x01}, {0x32, 0x01},
-                 {0x38, 0x00}, {0x38, 0x01}, {0x3E, 0x80}, {0x3E, 0xC0}, {0x40, 0x00}, {0x57, 0x0F}};
+                 {0x36, 0x80}, {0x36, 0x10}, {0x3E, 0x80}, {0x3E, 0xC0}, {0x40, 0x00}, {0x57, 0x0F}};
     int chosen = below(l, sizeof write / sizeof *write);
 
-    switch (below(l, 8)) {
+    switch (below(l, 9)) {
     case 0:
         put_outside_sample(l); /* refused, and must end no run */
         break;
@@ -1555,6 +1655,9 @@ static void stir_g(struct log *l)
         break;
     case 2:
         put_clock(l, 0);
+        break;
+    case 3:
+        put_any_offset(l);
         break;
     default:
         put_write(l, write[chosen].address, write[chosen].byte);
@@ -1784,7 +1887,7 @@ static void see_slow_point(struct slow *s, bool over)
 /* The first sample behind 0x0F is no point, whichever is wanted. */
 static void put_slow_point(struct log *l, struct slow *s, bool over)
 {
-    put_point(l, &s->setup, over);
+    over = put_point(l, &s->setup, over);
     if (s->sampled && s->setup.enable & 7)
         see_slow_point(s, over);
     s->sampled = true;
@@ -1877,6 +1980,7 @@ static void set_slow(struct log *l, struct slow *s)
         s->setup.at[axis] = PICK(l, 0, 5, -3, 2047, -2048, 900);
     s->setup.threshold = any_slow_threshold(l);
     s->setup.latch = any_latch(l);
+    set_offsets(l);
     put_write(l, 0x18, 0x00);
     put_write(l, 0x29, s->setup.threshold);
     put_write(l, 0x21, s->setup.latch);
@@ -1903,12 +2007,12 @@ static void stir_slow(struct log *l, struct slow *s)
                  {0x16, 0x00}, {0x16, 0x87}, {0x17, 0x7F}, {0x17, 0x00}, {0x19, 0x08}, {0x19, 0xF7},
                  {0x1B, 0x08}, {0x1B, 0xF7}, {0x1E, 0x08}, {0x20, 0x0A}, {0x20, 0x05}, {0x22, 0x00},
                  {0x23, 0xFF}, {0x24, 0x00}, {0x25, 0x00}, {0x26, 0x00}, {0x28, 0x00}, {0x28, 0x01},
-                 {0x28, 0xFF}, {0x2A, 0x00}, {0x30, 0x01}, {0x38, 0x01}, {0x3E, 0x80}, {0x3E, 0xC0},
+                 {0x28, 0xFF}, {0x2A, 0x00}, {0x30, 0x01}, {0x36, 0x80}, {0x3E, 0x80}, {0x3E, 0xC0},
                  {0x58, 0x09}, {0x67, 0x00}};
     int chosen = below(l, sizeof write / sizeof *write);
     int refused = 22 + below(l, 10);
 
-    switch (below(l, 9)) {
+    switch (below(l, 10)) {
     case 0:
         put_outside_sample(l);
         break;
@@ -1924,6 +2028,9 @@ static void stir_slow(struct log *l, struct slow *s)
             put_joined(l, s, 0x27, refused << 2);
         else if (s->setup.count >> 2 >= 22 && s->setup.count >> 2 <= 31)
             put_joined(l, s, 0x18, 0x08 | s->setup.enable);
+        break;
+    case 5:
+        put_any_offset(l);
         break;
     default:
         put_write(l, write[chosen].address, write[chosen].byte);
@@ -2086,6 +2193,194 @@ static void joined_scene(struct log *l)
     look(l);
 }
 
+/* ---- offset scenes ---- */
+
+/* A given count that with its offset is one below, at or one above an end of the 12 bits, mostly the
+   end that the offset leads to; or that is so by itself. It may be outside, and refused. */
+static int count_near_end(struct log *l, int axis)
+{
+    bool led_to = !one_in(l, 4);
+    int end = (offset(l, axis) > 0) == led_to ? 2047 : -2048;
+    int beside = below(l, 3) - 1;
+
+    return (one_in(l, 4) ? end : end - offset(l, axis)) + beside;
+}
+
+static void put_sample_near_end(struct log *l)
+{
+    int chosen = below(l, AXES);
+    int sample[AXES];
+
+    for (int axis = X; axis < AXES; axis++) {
+        int near = count_near_end(l, axis);
+        int any = below(l, 4096) - 2048;
+        bool too = one_in(l, 3) && near == within_12_bits(near);
+
+        sample[axis] = axis == chosen || too ? near : any;
+    }
+    put_sample(l, sample);
+}
+
+/* The offset of an axis, or the range, which leaves the frames that are there; or what leaves both,
+   and now and then a soft reset, which ends them. */
+static void change_offset(struct log *l)
+{
+    int range = any_range(l);
+    int trim = PICK(l, 0x80, 0x80, 0x88, 0x98, 0x18, 0x60, 0x07);
+    int beside = PICK(l, 0x37, 0x3B, 0x3C);
+    int byte = any_offset(l);
+
+    switch (below(l, 12)) {
+    case 0:
+    case 1:
+        put_write(l, 0x0F, range);
+        break;
+    case 2:
+        put_write(l, 0x36, trim); /* refused, or ignored */
+        break;
+    case 3:
+        put_write(l, beside, byte);
+        break;
+    case 4:
+        if (one_in(l, 2))
+            put_write(l, 0x14, 0xB6);
+        break;
+    default:
+        put_any_offset(l);
+        break;
+    }
+}
+
+/* Stored samples at the ends of the 12 bits, at each range, in channels and frames. */
+static void offset_scene(struct log *l)
+{
+    int mode = any_fifo_mode(l);
+    int range = any_range(l);
+    int turns = 4 + below(l, 8);
+
+    put_write(l, 0x0F, range);
+    put_write(l, 0x3E, mode);
+    for (int axis = X; axis < AXES; axis++) {
+        int byte = any_offset(l);
+
+        put_write(l, 0x38 + axis, byte);
+    }
+    while (turns-- > 0) {
+        int samples = 1 + below(l, 3);
+        int frames = 1 + below(l, 3);
+
+        while (samples-- > 0)
+            put_sample_near_end(l);
+        if (!one_in(l, 3))
+            put_read(l, 0x02, 6);
+        change_offset(l);
+        if (one_in(l, 3))
+            put_read(l, 0x38, 3);
+        if (one_in(l, 2))
+            put_read(l, 0x3F, frames * (mode & 3 ? 2 : 6));
+    }
+    look(l);
+}
+
+/* A sample that is given again behind a write to an offset: what is stored jumps by the step. */
+struct jump {
+    int axis;
+    int byte[2]; /* of the offset, in turns */
+    int turn;
+    int given[AXES];
+};
+
+/* A byte at, just below or just above the size in such parts. */
+static int threshold_near(struct log *l, int size, int part)
+{
+    int threshold = size / part + below(l, 3) - 1;
+
+    return threshold < 0 ? 0 : least(threshold, 255);
+}
+
+/* Every detector, on that axis and perhaps others, with thresholds near the jump, or near the size
+   to which it leads. */
+static void set_jump(struct log *l, const struct jump *j)
+{
+    int axes = (one_in(l, 3) ? below(l, 8) : 0) | 1 << j->axis;
+    int steps = signed_byte(j->byte[1]) - signed_byte(j->byte[0]);
+    int reached = abs(within_12_bits(j->given[j->axis] + signed_byte(j->byte[1]) * l->step));
+    int slow = PICK(l, 0x00, 0x08), count = PICK(l, 0x00, 0x00, 0x01, 0x04, 0x05);
+    int latch = one_in(l, 4) ? any_latch(l) : 0x00;
+    int any_motion = threshold_near(l, abs(steps) * l->step, 4);
+    int slow_motion = threshold_near(l, abs(steps) * l->step, 4);
+    int low = threshold_near(l, reached * 8 / l->step, 8), high = threshold_near(l, reached, 8);
+    int mode = PICK(l, 0x00, 0x00, 0x04, 0x41, 0xC7);
+
+    put_write(l, 0x18, 0x00);
+    put_write(l, 0x27, count);
+    put_write(l, 0x28, any_motion);
+    put_write(l, 0x29, slow_motion);
+    put_write(l, 0x21, latch);
+    put_write(l, 0x22, 0x00);
+    put_write(l, 0x23, low);
+    put_write(l, 0x24, mode);
+    put_write(l, 0x25, 0x00);
+    put_write(l, 0x26, high);
+    put_write(l, 0x16, axes);
+    put_write(l, 0x17, 0x08 | axes);
+    put_write(l, 0x18, slow | axes);
+}
+
+/* Mostly the offset's other byte; now and then a range, which forgets the sample before. */
+static void put_jump(struct log *l, struct jump *j)
+{
+    int beside = below(l, 3) - 1;
+    int range = any_range(l);
+    uint32_t time = (uint32_t)PICK(l, 2000, 2000, 1000000);
+    uint32_t microseconds = clock_near(l, time);
+
+    put_sample(l, j->given);
+    if (one_in(l, 2)) {
+        put_clock(l, microseconds);
+        put_sample(l, j->given);
+    }
+    put_read(l, 0x09, 4);
+    if (one_in(l, 6)) {
+        put_write(l, 0x0F, range);
+    } else {
+        j->turn = 1 - j->turn;
+        put_write(l, 0x38 + j->axis, j->byte[j->turn]);
+    }
+    put_read(l, 0x02, 11); /* what is stored stays, and no status goes */
+    if (one_in(l, 3))
+        j->given[j->axis] = within_12_bits(j->given[j->axis] + beside);
+    if (one_in(l, 4))
+        put_clock(l, microseconds);
+    put_sample(l, j->given);
+    put_read(l, 0x02, 11);
+}
+
+static void jump_scene(struct log *l)
+{
+    struct jump j = {.axis = below(l, AXES)};
+    int range = any_range(l), first = any_offset(l), other = any_offset(l), way = below(l, 65) - 32;
+    int turns = 2 + below(l, 5);
+
+    j.byte[0] = first;
+    j.byte[1] = one_in(l, 2) ? other : (first + way) & 0xFF;
+    put_write(l, 0x0F, range);
+    for (int axis = X; axis < AXES; axis++) {
+        int beside = below(l, 3) - 1;
+
+        j.given[axis] = 8 * (below(l, 33) - 16) + beside;
+        put_write(l, 0x38 + axis, axis == j.axis ? first : 0x00);
+    }
+    if (one_in(l, 4)) {
+        int near = count_near_end(l, j.axis);
+
+        j.given[j.axis] = within_12_bits(near);
+    }
+    set_jump(l, &j);
+    while (turns-- > 0)
+        put_jump(l, &j);
+}
+
 /* Sets the data interrupt and looks at it around samples, cycle starts, clocks and its enable
    bit. */
 static void data_scene(struct log *l)
@@ -2208,6 +2503,7 @@ static void any_scene(struct log *l)
         data_scene,   set_pins,    motion_scene,    motion_scene,    latch_scene, latch_scene,
         mode_scene,   mode_scene,  g_scene,         g_scene,         g_scene,     g_scene,
         slow_scene,   slow_scene,  slow_scene,      slow_scene,      slow_scene,  joined_scene,
+        offset_scene, offset_scene, offset_scene,   jump_scene,      jump_scene,  jump_scene,
     };
 
     if (one_in(l, 16))
@@ -2242,7 +2538,7 @@ static void put_head(struct log *l)
 
 static void edge_log(uint64_t seed, uint64_t records, enum form form, FILE *marks)
 {
-    struct log l = {.state = seed, .undamaged = UINT64_MAX};
+    struct log l = {.state = seed, .undamaged = UINT64_MAX, .step = 8};
     int fill = PICK(&l, 0, 1, 2, 2, 3, 4, 31, 32, 33);
     uint64_t last = (uint64_t)(fill + PIN_RECORDS);
 
@@ -2303,7 +2599,7 @@ static void put_bench_write(struct log *l)
 
 static void big_log(uint64_t megabytes)
 {
-    struct log l = {.left = UINT64_MAX, .undamaged = UINT64_MAX};
+    struct log l = {.left = UINT64_MAX, .undamaged = UINT64_MAX, .step = 8};
 
     put_head(&l);
     put_write(&l, 0x3E, 0x80);

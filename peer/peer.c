@@ -36,6 +36,7 @@ enum {
     MOTION_THRESHOLD = 0x28,
     SLOW_THRESHOLD = 0x29,
     WATERMARK_LEVEL = 0x30,
+    X_OFFSET = 0x38, /* and y and z behind it */
     KEPT_3B = 0x3B,
     KEPT_3C = 0x3C,
     FIFO_MODE = 0x3E,
@@ -95,6 +96,11 @@ static bool non_latched(const struct peer *t)
    that are refused. */
 static const uint8_t range_factor[0x10] = {
     [0x3] = 1, [0x5] = 2, [0x8] = 4, [0xC] = 8 /* 2, 4, 8 and 16 g */
+};
+
+/* How many counts one step of 0x38 to 0x3A is with each code of 0x0F, its low nibble. */
+static const uint8_t offset_step[0x10] = {
+    [0x3] = 8, [0x5] = 4, [0x8] = 2, [0xC] = 1 /* 2, 4, 8 and 16 g */
 };
 
 /* For how many seconds no-motion waits with each code of 0x27, its bits 7:2; 0 for the codes that
@@ -444,10 +450,6 @@ static enum peer_answer refuse_write(const struct peer *t, uint8_t address, uint
         return refuse_bits(byte, 0x0B, PEER_NO_TEST_OR_TRIM);
     case 0x36:
         return refuse_bits(byte, 0xE7, PEER_NO_TEST_OR_TRIM);
-    case 0x38:
-    case 0x39:
-    case 0x3A:
-        return refuse_bits(byte, 0xFF, PEER_NO_TEST_OR_TRIM);
     default:
         return PEER_DONE;
     }
@@ -621,20 +623,37 @@ enum peer_answer peer_read(struct peer *t, uint8_t address, uint8_t *buffer, siz
 
 /* ---- sample, cycle start and clock ---- */
 
-static bool outside_12_bits(int value)
+enum { LEAST_COUNT = -2048, LARGEST_COUNT = 2047 }; /* of 12 bits */
+
+static bool outside_12_bits(int given)
 {
-    return value < -2048 || value > 2047;
+    return given < LEAST_COUNT || given > LARGEST_COUNT;
 }
 
+/* What is stored of the given count of an axis: with its offset, held where it would pass 12 bits. */
+static int stored_count(const struct peer *t, int axis, int given)
+{
+    uint8_t byte = t->reg[X_OFFSET + axis];
+    int steps = byte < 0x80 ? byte : byte - 0x100;
+    int count = given + steps * offset_step[t->reg[RANGE]];
+
+    if (count < LEAST_COUNT)
+        return LEAST_COUNT;
+    return count > LARGEST_COUNT ? LARGEST_COUNT : count;
+}
+
+/* Channels, FIFO and detectors all see the stored sample; the given one alone can be refused. */
 enum peer_answer peer_sample(struct peer *t, int x, int y, int z, uint8_t temperature)
 {
-    const int sample[PEER_AXES] = {x, y, z};
+    int sample[PEER_AXES] = {x, y, z};
 
     if (outside_12_bits(x) || outside_12_bits(y) || outside_12_bits(z))
         return PEER_OUTSIDE_12_BITS;
     for (int axis = 0; axis < PEER_AXES; axis++) {
-        unsigned bits = (unsigned)sample[axis];
+        unsigned bits;
 
+        sample[axis] = stored_count(t, axis, sample[axis]);
+        bits = (unsigned)sample[axis];
         t->reg[X_LSB + 2 * axis] = (uint8_t)((bits & 0x0F) << 4 | 1);
         t->reg[X_MSB + 2 * axis] = (uint8_t)(bits >> 4);
     }

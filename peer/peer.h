@@ -1,6 +1,6 @@
-/* A twin of the BMA255 accelerometer: registers 0x00 to 0x3F, three data channels, the FIFO, the
-   detectors of any-motion, slow motion or no-motion, low-g and high-g with their latch times and
-   both interrupt pins. Plain C11, no heap, updated in place.
+/* A twin of the BMA255 accelerometer: registers 0x00 to 0x3F, three data channels with their offsets,
+   the FIFO, the detectors of any-motion, slow motion or no-motion, low-g and high-g with their latch
+   times and both interrupt pins. Plain C11, no heap, updated in place.
 
    The caller owns a struct peer and starts it with peer_power_up(); the fields are not for use
    outside peer.c. Each event gives back one of the numbers below; a number other than PEER_DONE
@@ -27,7 +27,7 @@ enum peer_answer {
     PEER_DONE = 0,              /* done, or a write that the chip ignores */
     PEER_WRONG_ADDRESS = 1,     /* address above 0x3F */
     PEER_RESERVED_CODE = 2,     /* write of a code the sheet reserves */
-    PEER_OUTSIDE_12_BITS = 4,   /* x, y or z outside -2048..2047 */
+    PEER_OUTSIDE_12_BITS = 4,   /* x, y or z outside -2048..2047, as given */
     PEER_WRONG_READ_LENGTH = 5, /* read length 0 or above 192 */
     PEER_READ_PASSES_3E = 6,    /* read starting below 0x3F that would pass 0x3E */
     PEER_WRONG_VERSION = 7,     /* log version byte not 1 */
@@ -35,8 +35,7 @@ enum peer_answer {
     PEER_LOG_CUT = 9,           /* log cut, or empty */
     PEER_NO_DETECTOR = 11,      /* a detector bit in 0x16 */
     PEER_NO_POWER_MODE = 12,    /* a power mode in 0x11 */
-    PEER_NO_TEST_OR_TRIM = 13   /* self-test, memory, calibration or offset in 0x32, 0x33, 0x36,
-                                   0x38 to 0x3A */
+    PEER_NO_TEST_OR_TRIM = 13   /* self-test, memory, calibration or offset in 0x32, 0x33, 0x36 */
 };
 
 enum peer_level { PEER_LOW, PEER_HIGH, PEER_RELEASED };
@@ -79,7 +78,7 @@ struct peer {
     bool locked[PEER_AXES];
     bool fresh_data; /* a sample came since the last cycle start or reset */
     struct peer_fifo fifo;
-    int16_t previous[PEER_AXES]; /* the sample before, if there is one */
+    int16_t previous[PEER_AXES]; /* the stored sample before, if there is one */
     bool has_previous;
     struct peer_motion motion, slow;
     struct peer_g_detector low, high;
