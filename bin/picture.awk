@@ -165,7 +165,7 @@ function draw_samples(   a, c) {
     for (a = 1; a <= 3; a++) { panel = 256 + 124 * (a - 1); draw_axis_of(a) }
     if (records < 1) text((left + right) / 2, 428, 16, "middle", "no records", "")
     else if (samples < 1) text((left + right) / 2, 430, 14, "middle", "no samples were accepted", "")
-    text(18, 438, 13, "middle", "counts, as stored", " transform=\"rotate(-90 18 438)\"")
+    text(18, 438, 13, "middle", "counts, as given", " transform=\"rotate(-90 18 438)\"")
     if (!stop) return
     line(right + 4, 246, right + 4, 732, " stroke=\"" red "\" stroke-width=\"3\" stroke-dasharray=\"8 5\"")
     text(right + 2, 250, 12, "end", "refused " stop " at record " stopped_at, " font-weight=\"bold\" fill=\"" red "\"")

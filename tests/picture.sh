@@ -27,7 +27,7 @@ is_on_page spring
 expect "docs/spring.svg is that picture" $?
 [ "$(lost_columns 89)" = "68 70 72 74 76 78 80 82 " ] && has 'y="673.0".*>8<'
 expect "a block for each lost sample, and their number" $?
-has "<title" && has "<desc" && has "number of the record" && has "counts, as stored" && has "$(sha256sum <examples/spring.log | cut -d ' ' -f 1)" && has "566 bytes" && has "Prundiski .*commit" && has "Drawn 20..-..-.. ..:.. UTC" && [ "$(grep -c stroke-dasharray "$svg")" -ge 4 ]
+has "<title" && has "<desc" && has "number of the record" && has "counts, as given" && has "$(sha256sum <examples/spring.log | cut -d ' ' -f 1)" && has "566 bytes" && has "Prundiski .*commit" && has "Drawn 20..-..-.. ..:.. UTC" && [ "$(grep -c stroke-dasharray "$svg")" -ge 4 ]
 expect "title, names of the axes, the log's size and SHA-256, version, date, and dashed lines" $?
 has '>BYPASS<' && has '>FIFO<' && has '>16g?<' && has 'fill="url(#doubt)"'
 expect "the modes, and the range in doubt" $?

@@ -1,4 +1,4 @@
--- What the device stores of a sample is what Q-7 says, and it lies inside, whatever is given and whatever the registers hold.
+-- What the device stores of a sample is what Q-7 says, and it lies inside, whatever is given.
 -- Assumes nothing.
 use Prim.Native.Nat.{ℕ, _%_, _<_}
 use mathlib.Core.Bool.{Bool, true, false}
@@ -22,7 +22,7 @@ use Rattle.events.specs.Bank.{bank, stored}
 use Rattle.events.specs.Run.{after}
 use Rattle.events.proofs.Runs.{bank-is}
 use Rattle.paper.specs.Ranges.{ranges}
-use Rattle.paper.specs.Samples.{isInside, signed, steps, stepIn, held, storedBehind}
+use Rattle.paper.specs.Samples.{isInside, signed, steps, stepIn, heldAtLimits, storedBehind}
 use Rattle.paper.specs.Stored.{byteBy}
 use Rattle.paper.proofs.Stored.{stored-is, byte-small}
 
@@ -35,7 +35,7 @@ unfolding rangeOf
 step-is code = alike (λ c. stepOf (meaningOf range.ranges Reserved c)) (λ c. meaningOf steps 0 (meaningOf ranges 0 c)) 16 refl (code % 16) (omega arith)
 
 -- ---- the limits
-held-is : (v : ℤ) → heldInside v ≡ held v
+held-is : (v : ℤ) → heldInside v ≡ heldAtLimits v
 unfolding heldInside
 held-is (pos n) = go (leb n 2047) refl
   where
@@ -48,7 +48,7 @@ held-is (negsuc n) = go (leb n 2047) refl
     go true e = rw (le-ltb 2047 n (leb-true n 2047 e))
     go false e = rw (lt-ltb 2047 n (leb-false n 2047 e))
 
-inside : (v : ℤ) → isInside (held v) ≡ true
+inside : (v : ℤ) → isInside (heldAtLimits v) ≡ true
 inside v = go (isInside v) refl
   where
     go : (t : Bool) → isInside v ≡ t → isInside (pick t v (pick (ltZ v (pos 0)) (negsuc 2047) (pos 2047))) ≡ true

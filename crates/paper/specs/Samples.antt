@@ -50,12 +50,12 @@ abbrev pub stepIn : ℕ → ℕ
 stepIn code = meaningOf steps 0 (gBy code)
 
 -- "held at -2048 or 2047 where it would pass"
-abbrev pub held : ℤ → ℤ
-held v = pick (isInside v) v (pick (ltZ v (pos 0)) (negℤ (pos 2048)) (pos 2047))
+abbrev pub heldAtLimits : ℤ → ℤ
+heldAtLimits v = pick (isInside v) v (pick (ltZ v (pos 0)) (negℤ (pos 2048)) (pos 2047))
 
 -- "The stored sample is the given one plus that": of an axis whose offset stands at an address, by what is in force after a history
 unfoldable pub storedBehind : List Event → ℕ → ℤ → ℤ
-storedBehind es offset given = held (given +ℤ pos (stepIn (byteBy es 0x0F)) *ℤ signed (byteBy es offset))
+storedBehind es offset given = heldAtLimits (given +ℤ pos (stepIn (byteBy es 0x0F)) *ℤ signed (byteBy es offset))
 
 -- what is stored of a sample that comes behind a history: 0x38, 0x39 and 0x3A are the offsets of x, y and z
 abbrev pub valuesAt : List Event → Event → Values
