@@ -26,18 +26,20 @@
  * added or what was refused is done, the first where a caller may have to be changed. The first is in the library's symbols, so that what
  * was compiled with a header of another one does not link.
  *
- * Since 4.3 there are slow motion and no-motion: 0x18 takes the bytes with a 1 in bits 2:0, which 4.2 refused as TWIN_NO_DETECTOR. In turn
- * the write to 0x18 or 0x27 that would bring bit 3 of 0x18 and a code 22 to 31 in bits 7:2 of 0x27 together is TWIN_RESERVED_CODE; 4.2
- * stored both, without effect. A caller that writes neither is answered as before. Since 4.2 there are low-g and high-g: 0x17 takes any
- * byte, of which 4.1 refused those with a 1 in bits 3:0 as TWIN_NO_DETECTOR; a caller that writes none of these is answered as before. Since
- * 4.1.1 a buffer that overlaps the record is TWIN_BAD_BUFFER whatever its length is; 4.1.0 passed over those above TWIN_LONGEST_READ. Since
- * 4.1 the symbols have it, and the library itself looks at what it is handed, also for a caller without this header; there is a shared
- * library. In 4.0 this header looked: what was compiled with it is compiled anew, as it is. Since 4 there is a clock: twin_event takes
- * microseconds, and 0x21 takes a latch time. Since 3 the watermark stays 1 above its level; 2 showed it at the level alone. */
+ * Since 4.4 offsets are applied: 0x38 to 0x3A take any byte, of which 4.3 refused all but 0 as TWIN_NO_TEST_OR_TRIM, and what is stored of a
+ * later sample is the given one plus the offset, held at -2048 or 2047; a caller that writes none of these is answered as before. Since 4.3
+ * there are slow motion and no-motion: 0x18 takes the bytes with a 1 in bits 2:0, which 4.2 refused as TWIN_NO_DETECTOR. In turn the write to
+ * 0x18 or 0x27 that would bring bit 3 of 0x18 and a code 22 to 31 in bits 7:2 of 0x27 together is TWIN_RESERVED_CODE; 4.2 stored both,
+ * without effect. A caller that writes neither is answered as before. Since 4.2 there are low-g and high-g: 0x17 takes any byte, of which
+ * 4.1 refused those with a 1 in bits 3:0 as TWIN_NO_DETECTOR; a caller that writes none of these is answered as before. Since 4.1.1 a
+ * buffer that overlaps the record is TWIN_BAD_BUFFER whatever its length is; 4.1.0 passed over those above TWIN_LONGEST_READ. Since 4.1 the
+ * symbols have it, and the library itself looks at what it is handed, also for a caller without this header; there is a shared library. In
+ * 4.0 this header looked: what was compiled with it is compiled anew, as it is. Since 4 there is a clock: twin_event takes microseconds, and
+ * 0x21 takes a latch time. Since 3 the watermark stays 1 above its level; 2 showed it at the level alone. */
 #define TWIN_VERSION_MAJOR 4
-#define TWIN_VERSION_MINOR 3
+#define TWIN_VERSION_MINOR 4
 #define TWIN_VERSION_PATCH 0
-#define TWIN_VERSION "4.3.0"
+#define TWIN_VERSION "4.4.0"
 
 #ifdef __cplusplus
 extern "C" {
@@ -51,13 +53,13 @@ enum twin_answer {
     TWIN_DONE = 0,             /* done, or a write that the chip ignores */
     TWIN_NO_ADDRESS = 1,       /* address above 0x3F */
     TWIN_RESERVED_CODE = 2,    /* write of a code that the sheet reserves, or that would join no-motion in 0x18 and a code 22 to 31 in 0x27 */
-    TWIN_OUT_OF_RANGE = 4,     /* x, y or z outside -2048..2047 */
+    TWIN_OUT_OF_RANGE = 4,     /* x, y or z outside -2048..2047 as given, before its offset */
     TWIN_BAD_LENGTH = 5,       /* read length 0 or above 192 */
     TWIN_PAST_END = 6,         /* read starting below 0x3F that would pass 0x3E */
     TWIN_NO_KIND = 8,          /* a kind of event that does not exist */
     TWIN_NO_DETECTOR = 11,     /* write of a detector bit in 0x16 */
     TWIN_NO_POWER_MODE = 12,   /* write of a power mode in 0x11 */
-    TWIN_NO_TEST_OR_TRIM = 13, /* write of self-test, memory, calibration or offset in 0x32, 0x33, 0x36, 0x38 to 0x3A */
+    TWIN_NO_TEST_OR_TRIM = 13, /* write of self-test, memory, calibration or offset reset in 0x32, 0x33, 0x36 */
     /* for a call that is no event at all; these are looked at first */
     TWIN_MISFIT = 253,         /* power-up of a record that is not aligned, or with a library that needs more than TWIN_ROOM */
     TWIN_BAD_BUFFER = 254,     /* NULL with a count that is not 0, or a buffer that overlaps the record */
@@ -140,7 +142,7 @@ static inline int16_t twin_nearest_16(int value) {
     return (int16_t)(value < INT16_MIN ? INT16_MIN : value > INT16_MAX ? INT16_MAX : value);
 }
 
-/* A sample, as counts of 12 bits, and the byte of the temperature register 0x08. */
+/* A sample as it is given, in counts of 12 bits, to which the offsets are added, and the byte of the temperature register 0x08. */
 static inline uint8_t twin_sample(struct twin *twin, int x, int y, int z, uint8_t temperature) {
     return twin_event(twin, TWIN_SAMPLE, 0, temperature, twin_nearest_16(x), twin_nearest_16(y), twin_nearest_16(z), NULL, 0, 0);
 }
@@ -179,7 +181,7 @@ static inline const char *twin_answer_name(uint8_t answer) {
     case TWIN_NO_KIND: return "kind of event that does not exist";
     case TWIN_NO_DETECTOR: return "detector that the twin lacks";
     case TWIN_NO_POWER_MODE: return "power mode that the twin lacks";
-    case TWIN_NO_TEST_OR_TRIM: return "self-test, memory, calibration or offset that the twin lacks";
+    case TWIN_NO_TEST_OR_TRIM: return "self-test, memory, calibration or offset reset that the twin lacks";
     case TWIN_MISFIT: return "record that does not fit the library";
     case TWIN_BAD_BUFFER: return "no buffer, or one that overlaps the record";
     case TWIN_NOT_POWERED: return "record that was not powered up";

@@ -30,7 +30,7 @@ WORDS = {
     8: "kind of event that does not exist",
     11: "detector that the twin lacks",
     12: "power mode that the twin lacks",
-    13: "self-test, memory, calibration or offset that the twin lacks",
+    13: "self-test, memory, calibration or offset reset that the twin lacks",
     253: "record that does not fit the library",
     254: "no buffer, or one that overlaps the record",
     255: "record that was not powered up",
@@ -164,7 +164,7 @@ class Twin:
         return bytes(buffer)
 
     def sample(self, x, y, z, temperature=0):
-        """A sample, as counts of 12 bits, and the byte of the temperature register 0x08."""
+        """A sample as it is given, in counts of 12 bits, to which the offsets are added, and the byte of the temperature register 0x08."""
         counts = _count("x", x), _count("y", y), _count("z", z)
         self._done(self._event(self._record, _SAMPLE, 0, _byte("temperature", temperature), *counts, None, 0, 0))
 
