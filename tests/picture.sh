@@ -31,7 +31,7 @@ has "<title" && has "<desc" && has "number of the record" && has "counts, as giv
 expect "title, names of the axes, the log's size and SHA-256, version, date, and dashed lines" $?
 has '>BYPASS<' && has '>FIFO<' && has '>16g?<' && has 'fill="url(#doubt)"'
 expect "the modes, and the range in doubt" $?
-for log in drop parked; do
+for log in drop parked tilted; do
     draws 0 examples/$log.log && is_on_page $log
     expect "docs/$log.svg is the picture of examples/$log.log" $?
 done
