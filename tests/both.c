@@ -18,13 +18,14 @@ static unsigned below(unsigned n) {
 /* one of the registers that do something, or any byte */
 static uint8_t an_address(void) {
     static const uint8_t busy[] = {0x0F, 0x13, 0x14, 0x16, 0x17, 0x18, 0x19, 0x1A, 0x1B, 0x20, 0x21,
-                                   0x22, 0x23, 0x24, 0x25, 0x26, 0x27, 0x28, 0x29, 0x30, 0x3E};
+                                   0x22, 0x23, 0x24, 0x25, 0x26, 0x27, 0x28, 0x29, 0x30, 0x38, 0x39, 0x3A, 0x3E};
     return below(4) ? busy[below(sizeof busy)] : (uint8_t)below(below(8) ? 0x41 : 0x100);
 }
 
-/* near a bound, near zero, near what a small threshold or hysteresis makes of low-g and high-g, or anywhere in 16 bits */
+/* near a bound, near what an offset at 2 g takes to one, near zero, near what a small threshold or hysteresis makes of low-g and high-g, or
+ * anywhere in 16 bits */
 static int a_count(void) {
-    static const int near[] = {-2048, 2047, 0, 0, 0, 0, 0, 0, 8, -16, 136, -144};
+    static const int near[] = {-2048, 2047, -2040, 2039, -1024, 1031, 0, 0, 0, 0, 0, 0, 8, -16, 136, -144};
     return below(40) ? near[below(sizeof near / sizeof *near)] + (int)below(13) - 6 : (int)below(0x10000) - 0x8000;
 }
 
@@ -44,6 +45,9 @@ static uint8_t a_byte(uint8_t address) {
     case 0x24: return (uint8_t)below(0x100);               /* both hystereses and the mode of low-g */
     case 0x27: return (uint8_t)(below(8) ? below(16) : 0x50 + below(0x34)); /* a wait up to 4 s, or one around the codes that have none */
     case 0x30: return (uint8_t)below(below(2) ? 5 : 35);   /* a level that few frames reach, or one up to 34 */
+    case 0x38:
+    case 0x39:
+    case 0x3A: return (uint8_t)(below(4) ? below(5) - 2 : 0x7E + below(4)); /* a step or two up or down, none, or the most */
     case 0x3E: return (uint8_t)(below(3) << 6 | below(4)); /* a mode, and the axes of a frame */
     case 0x21: return (uint8_t)(below(2) ? below(16) : below(2) << 3); /* any code, or non-latched */
     default: return (uint8_t)below(8);

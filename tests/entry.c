@@ -84,8 +84,7 @@ static void lacking(struct twin *twin) {
     static const struct {
         uint8_t address, bits, answer;
     } lacks[] = {{0x11, 0xE0, TWIN_NO_POWER_MODE},   {0x16, 0xF0, TWIN_NO_DETECTOR},     {0x32, 0x03, TWIN_NO_TEST_OR_TRIM},
-                 {0x33, 0x0B, TWIN_NO_TEST_OR_TRIM}, {0x36, 0xE7, TWIN_NO_TEST_OR_TRIM}, {0x38, 0xFF, TWIN_NO_TEST_OR_TRIM},
-                 {0x39, 0xFF, TWIN_NO_TEST_OR_TRIM}, {0x3A, 0xFF, TWIN_NO_TEST_OR_TRIM}};
+                 {0x33, 0x0B, TWIN_NO_TEST_OR_TRIM}, {0x36, 0xE7, TWIN_NO_TEST_OR_TRIM}};
     for (int byte = 0; byte < 256; byte++)
         for (size_t i = 0; i < sizeof lacks / sizeof lacks[0]; i++)
             written(twin, lacks[i].address, byte, byte & lacks[i].bits ? lacks[i].answer : (uint8_t)TWIN_DONE);
@@ -200,6 +199,114 @@ static void slow_motion(struct twin *twin) {
         HOLDS(shows_at(twin, 0, false));
         for (int over = 1; over <= needed; over++) HOLDS(shows_at(twin, over % 2 * 81, over == needed));
         for (int calm = 1; calm <= needed; calm++) HOLDS(shows_at(twin, needed % 2 * 81, calm != needed));
+    }
+}
+
+/* the ranges, and how many counts a step of an offset is in each */
+static const struct {
+    uint8_t code;
+    int step;
+} ranges[] = {{0x03, 8}, {0x05, 4}, {0x08, 2}, {0x0C, 1}};
+
+/* a byte of an offset in counts */
+static int counts_of(int byte, int step) {
+    return (byte < 128 ? byte : byte - 256) * step;
+}
+
+static uint8_t sample_on(struct twin *twin, int axis, int given) {
+    return twin_sample(twin, axis == 0 ? given : 0, axis == 1 ? given : 0, axis == 2 ? given : 0, 0);
+}
+
+/* a sample on one axis: the channels, and the frame of BYPASS, have what is to be stored of it */
+static void stores(struct twin *twin, int axis, int given, int stored) {
+    uint8_t bytes[6], frame[6];
+    int code = stored & 0xFFF;
+    HOLDS(sample_on(twin, axis, given) == TWIN_DONE);
+    HOLDS(twin_read(twin, 0x02, bytes, 6) == TWIN_DONE && twin_read(twin, 0x3F, frame, 6) == TWIN_DONE && memcmp(bytes, frame, 6) == 0);
+    for (int i = 0; i < 3; i++) {
+        HOLDS(bytes[2 * i] == (i == axis ? code % 16 * 16 : 0) + 1);
+        HOLDS(bytes[2 * i + 1] == (i == axis ? code / 16 : 0));
+    }
+}
+
+/* an offset of one axis reads back; samples at both ends, at 0, and where what is stored reaches a limit and would pass it; 4 goes by what is
+ * given */
+static void applied(struct twin *twin, int axis, int byte, int step) {
+    int by = counts_of(byte, step);
+    int given[] = {-2048, 0, 2047, 2047 - by, 2048 - by, -2048 - by, -2049 - by};
+    uint8_t address = (uint8_t)(0x38 + axis), back = (uint8_t)~byte;
+    written(twin, address, byte, TWIN_DONE);
+    HOLDS(twin_read(twin, address, &back, 1) == TWIN_DONE && back == byte);
+    for (size_t i = 0; i < sizeof given / sizeof given[0]; i++) {
+        int sum = given[i] + by;
+        if (given[i] < -2048 || given[i] > 2047) HOLDS(sample_on(twin, axis, given[i]) == TWIN_OUT_OF_RANGE);
+        else stores(twin, axis, given[i], sum < -2048 ? -2048 : sum > 2047 ? 2047 : sum);
+    }
+    written(twin, address, 0, TWIN_DONE);
+}
+
+/* every byte as the offset of each axis, in each range; by a soft reset it is 0 */
+static void offsets(struct twin *twin) {
+    for (size_t range = 0; range < sizeof ranges / sizeof ranges[0]; range++)
+        for (int axis = 0; axis < 3; axis++) {
+            HOLDS(twin_power_up(twin) == TWIN_DONE && twin_write(twin, 0x0F, ranges[range].code) == TWIN_DONE);
+            for (int byte = 0; byte < 256; byte++) applied(twin, axis, byte, ranges[range].step);
+            written(twin, (uint8_t)(0x38 + axis), 0x80, TWIN_DONE);
+            HOLDS(twin_write(twin, 0x14, 0xB6) == TWIN_DONE);
+            stores(twin, axis, 100, 100);
+        }
+}
+
+/* every byte as an offset of x between two equal samples, in each range: the range and the offset at the sample count, and the jump is a slope,
+ * which any-motion notices above 80 counts */
+static void jumps(struct twin *twin) {
+    for (size_t range = 0; range < sizeof ranges / sizeof ranges[0]; range++)
+        for (int byte = 0; byte < 256; byte++) {
+            int by = counts_of(byte, ranges[range].step);
+            uint8_t marks = 0xFF;
+            HOLDS(twin_power_up(twin) == TWIN_DONE && twin_write(twin, 0x16, 0x01) == TWIN_DONE);
+            HOLDS(twin_write(twin, 0x0F, ranges[range].code) == TWIN_DONE && twin_sample(twin, 0, 0, 0, 0) == TWIN_DONE);
+            written(twin, 0x38, byte, TWIN_DONE);
+            HOLDS(twin_read(twin, 0x0B, &marks, 1) == TWIN_DONE && marks == 0);
+            HOLDS(twin_sample(twin, 0, 0, 0, 0) == TWIN_DONE && twin_read(twin, 0x0B, &marks, 1) == TWIN_DONE);
+            HOLDS(marks == (by > 80 ? 0x01 : by < -80 ? 0x09 : 0));
+        }
+}
+
+/* a byte to all three offsets, and 0 again */
+static void to_and_fro(struct twin *twin, int byte) {
+    for (uint8_t address = 0x38; address <= 0x3A; address++) written(twin, address, byte, TWIN_DONE);
+    for (uint8_t address = 0x38; address <= 0x3A; address++) written(twin, address, 0, TWIN_DONE);
+}
+
+/* a sample of this x and of y 17, then the byte of 0x09 */
+static int status_at(struct twin *twin, int x) {
+    uint8_t status = 0xFF;
+    HOLDS(twin_sample(twin, x, 17, 0, 0) == TWIN_DONE && twin_read(twin, 0x09, &status, 1) == TWIN_DONE);
+    return status;
+}
+
+/* every byte to the offsets, and back, restarts no detector: any-motion and slow motion of x, two points in a row above 4 counts; low-g, and
+ * high-g of y above 16, 2 ms; and no-motion */
+static void restarts_nothing(struct twin *twin) {
+    static const uint8_t writes[][2] = {{0x16, 0x01}, {0x28, 0x01}, {0x27, 0x05}, {0x29, 0x01}, {0x18, 0x01},
+                                        {0x22, 0x00}, {0x25, 0x00}, {0x26, 0x02}, {0x17, 0x0A}};
+    for (int byte = 0; byte < 256; byte++) {
+        HOLDS(twin_power_up(twin) == TWIN_DONE);
+        for (size_t i = 0; i < sizeof writes / sizeof writes[0]; i++) written(twin, writes[i][0], writes[i][1], TWIN_DONE);
+        HOLDS(status_at(twin, 0) == 0 && status_at(twin, 5) == 0 && twin_clock(twin, 1999) == TWIN_DONE);
+        to_and_fro(twin, byte);
+        HOLDS(status_at(twin, 10) == 0x0C && twin_clock(twin, 1) == TWIN_DONE);
+        to_and_fro(twin, byte);
+        HOLDS(status_at(twin, 10) == 0x0F);
+        to_and_fro(twin, byte);
+        HOLDS(status_at(twin, 10) == 0x03);
+        choosing(twin, 0x09, 0);
+        HOLDS(twin_clock(twin, 999999) == TWIN_DONE && shows_at(twin, 0, false));
+        to_and_fro(twin, byte);
+        HOLDS(shows_at(twin, 0, false) && twin_clock(twin, 1) == TWIN_DONE);
+        to_and_fro(twin, byte);
+        HOLDS(shows_at(twin, 0, true));
     }
 }
 
@@ -396,6 +503,9 @@ static void at_the_edge(uint8_t *page, uint8_t *buffers) {
     joined(twin);
     waits(twin);
     slow_motion(twin);
+    offsets(twin);
+    jumps(twin);
+    restarts_nothing(twin);
     unknown_kinds(twin);
     no_buffer(twin);
     HOLDS(all((uint8_t *)twin + twin_size(), TWIN_ROOM - twin_size(), 0));

@@ -14,7 +14,8 @@ import twin
 
 LIBRARY, ROOM = sys.argv[1:]
 LOGS, RECORDS = 400, 60
-BUSY = (0x0F, 0x13, 0x14, 0x16, 0x17, 0x18, 0x19, 0x1A, 0x1B, 0x20, 0x21, 0x22, 0x23, 0x24, 0x25, 0x26, 0x27, 0x28, 0x29, 0x30, 0x3E)
+BUSY = (0x0F, 0x13, 0x14, 0x16, 0x17, 0x18, 0x19, 0x1A, 0x1B, 0x20, 0x21, 0x22, 0x23, 0x24, 0x25, 0x26, 0x27, 0x28, 0x29, 0x30, 0x36, 0x38, 0x39,
+        0x3A, 0x3E)
 TIMES = (250, 500, 1000, 4000, 12500, 20000, 25000, 50000, 250000, 500000, 1000000, 2000000, 4000000, 8000000, 40000000, 88000000)
 checks = failed = 0
 
@@ -46,15 +47,24 @@ def refused(number, call, *arguments):
 # ---- random events: each as what is asked of the module and as a record of the log (docs/LOG.md)
 
 def some_count(chance):
-    return chance.choice((0, 0, -2048, 2047, 40)) + chance.randint(-6, 6) if chance.random() < 0.97 else chance.randint(-0x8000, 0x7FFF)
+    return chance.choice((0, 0, -2048, 2047, -2040, 1031, 40)) + chance.randint(-6, 6) if chance.random() < 0.97 else chance.randint(-0x8000, 0x7FFF)
+
+
+def a_write(address, byte):
+    return "write", (address, byte), struct.pack(">BBB", 1, address, byte)
+
+
+def some_start(chance):
+    """In half of the logs low-g and high-g are on, after 2 ms each, so that their statuses do not come by luck alone."""
+    return [a_write(0x22, 0x00), a_write(0x25, 0x00), a_write(0x17, 0x0F)] if chance.random() < 0.5 else []
 
 
 def some_write(chance):
     address = chance.choice(BUSY) if chance.random() < 0.8 else chance.randrange(0x100)
-    byte = chance.randrange(0x100) if chance.random() < 0.4 else chance.choice((0x01, 0x02, 0x04, 0x07, 0x09, 0x0F, 0x40, 0x58, 0x80, 0x50))
+    byte = chance.randrange(0x100) if chance.random() < 0.4 else chance.choice((0x01, 0x02, 0x04, 0x07, 0x09, 0x0F, 0x40, 0x58, 0x7F, 0x80, 0xFF, 0x50))
     if address == 0x14 and chance.random() < 0.8:
         byte = 0xB5  # seldom a soft reset
-    return "write", (address, byte), struct.pack(">BBB", 1, address, byte)
+    return a_write(address, byte)
 
 
 def some_read(chance):
@@ -64,7 +74,8 @@ def some_read(chance):
 
 
 def some_sample(chance):
-    counts = some_count(chance), some_count(chance), some_count(chance)
+    falls = chance.random() < 0.4  # nothing on any axis, which low-g asks for
+    counts = tuple(chance.randint(-6, 6) if falls else some_count(chance) for _ in range(3))
     temperature = chance.randrange(0x100)
     return "sample", counts + (temperature,), struct.pack(">BhhhB", 3, *counts, temperature)
 
@@ -101,7 +112,7 @@ def as_the_replay():
     chance = random.Random(25)
     logs = {}
     for n in range(LOGS):
-        events = [some_event(chance) for _ in range(RECORDS)]
+        events = some_start(chance) + [some_event(chance) for _ in range(RECORDS)]
         name = os.path.join(ROOM, "%d.log" % n)
         with open(name, "wb") as log:
             log.write(b"\x01" + b"".join(struct.pack(">H", len(record)) + record for _, _, record in events))
