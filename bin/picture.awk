@@ -233,7 +233,7 @@ function draw_legend(   a, x) {
     }
     x = left + 270; if (marked) put_lost(x + 6, 792); box(x + (marked ? 14 : 6), 785, 8, 14, red, ""); legend(x, 792, "a sample that was lost, at its own place; below, how many")
     x = left + 670; box(x + 10, 785, 1.6, 14, "#000", ""); legend(x, 792, "readout")
-    x = left + 770; put_refused(x + 12, 788); legend(x, 792, "refused write" (all_refused > refused_writes ? sprintf(" (and %.0f refused events that are no write)", all_refused - refused_writes) : ""))
+    x = left + 770; put_refused(x + 12, 788); legend(x, 792, "refused write" (all_refused > refused_writes ? sprintf(" (others, not drawn: %.0f)", all_refused - refused_writes) : ""))
     box(left, 808, 22, 14, "url(#doubt)", " stroke=\"#999\""); legend(left, 815, "? range or mode in doubt: the last write to it was refused")
     if (dense) { box(left + 400, 808, 22, 14, "url(#several)", " stroke=\"#999\""); legend(left + 400, 815, "several in one column"); legend(left + 560, 815, "lines reach from the smallest to the largest value of a column") }
     else legend(left + 400, 815, "a line is not joined where the range in force is another one, or in doubt")
