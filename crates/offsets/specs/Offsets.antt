@@ -32,15 +32,6 @@ heldInside v = pick (ltZ v (negsuc 2047)) (negsuc 2047) (pick (ltZ (pos 2047) v)
 abbrev pub storedAxis : ℕ → ℕ → ℤ → ℤ
 storedAxis step byte given = heldInside (given +ℤ pos step *ℤ signedByte byte)
 
--- what is stored lies in -2048..2047
-abbrev pub Inside : ℤ → Type 0
-Inside v = (negsuc 2047 ≤ℤ v) × (v ≤ℤ pos 2047)
-
-pub record AllInside (s : Stored) : Type 0 where
-  pub x : Inside (s .x)
-  pub y : Inside (s .y)
-  pub z : Inside (s .z)
-
 -- of a sample x, y, z, by the bytes that the registers hold
 unfoldable pub storedBy : List ℕ → ℤ → ℤ → ℤ → Stored
 storedBy regs x y z =
@@ -50,3 +41,12 @@ storedBy regs x y z =
       y = storedAxis step (getD regs yOffsetAt 0) y;
       z = storedAxis step (getD regs zOffsetAt 0) z;
     }
+
+-- what is stored lies in -2048..2047
+abbrev pub Inside : ℤ → Type 0
+Inside v = (negsuc 2047 ≤ℤ v) × (v ≤ℤ pos 2047)
+
+pub record AllInside (s : Stored) : Type 0 where
+  pub x : Inside (s .x)
+  pub y : Inside (s .y)
+  pub z : Inside (s .z)
