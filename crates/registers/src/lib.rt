@@ -40,7 +40,7 @@ pub const LONGEST_READ: usize = 192;
 pub const SOFT_RESET: u8 = 0xB6;
 
 // What an event is answered; `number_of` gives its number. The last three name what the twin lacks; the third of them is self-test, memory,
-// calibration or the reset of offsets.
+// calibration or offset reset.
 pub enum Answer {
     Done,
     NoAddress,
