@@ -2,6 +2,7 @@
 use Prim.Native.Nat.{ℕ}
 use mathlib.Core.List.{List}
 use lib.Dec.{eqb, ltb}
+use lib.IntN.{ℤ}
 use lib.ListN.{getD}
 use Rattle.laws.specs.Choice.{pick}
 use Rattle.codes.specs.Addresses.{rangeAt, controlAt}
@@ -9,6 +10,8 @@ use Rattle.codes.specs.Mode.{modeOf}
 use Rattle.codes.specs.Range.{rangeOf}
 use Rattle.codes.specs.declared.Mode.{Mode}
 use Rattle.codes.specs.declared.Range.{Range}
+use Rattle.offsets.specs.Offsets.{storedBy}
+use Rattle.offsets.specs.declared.Stored.{Stored}
 use Rattle.fifo.specs.Setting.{depthIn}
 use Rattle.fifo.specs.Store.{countAt, statusAt}
 use Rattle.alarm.specs.Alarm.{marksOf}
@@ -72,3 +75,7 @@ rangeIn d = rangeOf (getD (d .regs) rangeAt 0)
 -- the FIFO's mode, by the byte of 0x3E
 abbrev pub modeIn : Device → Mode
 modeIn d = modeOf (getD (d .regs) controlAt 0)
+
+-- what would be stored of a sample, by the bytes of 0x0F and 0x38 to 0x3A
+abbrev pub storedIn : Device → ℤ → ℤ → ℤ → Stored
+storedIn d x y z = storedBy (d .regs) x y z

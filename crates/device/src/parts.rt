@@ -5,7 +5,7 @@ ghost use Prim.Native.Nat.{ℕ};
 ghost use mathlib.Core.List.{List};
 ghost use lib.ListN.{length};
 ghost use Rattle.device.specs.Parts.{coreOf, registersOf, framesOf, whole, answeredWhole};
-ghost use Rattle.device.specs.Show.{pinsOf, heldIn, rangeIn, modeIn};
+ghost use Rattle.device.specs.Show.{pinsOf, heldIn, rangeIn, modeIn, storedIn};
 ghost use Rattle.device.specs.Write.{writeOf};
 ghost use Rattle.device.specs.Read.{readOf, bufferAfter};
 ghost use Rattle.device.specs.Sample.{sampleOf, cycleOf};
@@ -36,6 +36,7 @@ use interrupts::Pin;
 use interrupts::Pins;
 use interrupts::pin_level;
 use laws::bit;
+use offsets::Stored;
 use offsets::stored_by;
 use registers::Answer;
 use registers::is_accepted;
@@ -220,6 +221,13 @@ pub fn mode_in(regs: &[u8; 64]) -> Mode
     ensures { λ r. ⌜ ((core : Core) (frames : List ℕ) → r ≡ modeIn (whole core (now (regs .entry)) frames)) ⌝ }
 {
     mode_of(regs[CONTROL_AT])
+}
+
+// What would be stored of a sample.
+pub fn stored_in(regs: &[u8; 64], x: i16, y: i16, z: i16) -> Stored
+    ensures { λ r. ⌜ ((core : Core) (frames : List ℕ) → r ≡ storedIn (whole core (now (regs .entry)) frames) x y z) ⌝ }
+{
+    stored_by(regs, x, y, z)
 }
 
 impl Device {

@@ -31,6 +31,7 @@ use Rattle.device.proofs.parts.Core.clock as core-clock
 use Rattle.device.proofs.parts.Core.pins as core-pins
 use Rattle.device.proofs.parts.Core.held as core-held
 use Rattle.device.proofs.parts.range_in as range-in
+use Rattle.device.proofs.parts.stored_in as stored-in
 use Rattle.device.proofs.parts.mode_in as mode-in
 use Rattle.outcomes.proofs.Plain.{plain}
 
@@ -107,6 +108,9 @@ core-pins-settled = settles (λ κs a r r′ s s′ p q. (meet (p []) (q []), re
 
 core-held-settled : Settled core-held.ended (λ M. core-held.clauses) (λ M. core-held.spec)
 core-held-settled = settles (λ κs a r r′ s s′ p q. (meet (p [] []) (q [] []), refl))
+
+stored-in-settled : Settled stored-in.ended (λ M. stored-in.clauses) (λ M. stored-in.spec)
+stored-in-settled = settles (λ κs a r r′ s s′ p q. (meet (p (coreOf powerUp) []) (q (coreOf powerUp) []), refl))
 
 range-in-settled : Settled range-in.ended (λ M. range-in.clauses) (λ M. range-in.spec)
 range-in-settled = settles (λ κs a r r′ s s′ p q. (meet (p (coreOf powerUp) []) (q (coreOf powerUp) []), refl))

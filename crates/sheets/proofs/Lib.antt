@@ -1,2 +1,3 @@
-pub mod Signed
 pub mod Joins
+pub mod OneOutcome
+pub mod Signed
