@@ -1,10 +1,15 @@
 -- Q-8: "each extreme in g as a 32-bit float: the count times 1/1024, 1/512, 1/256 or 1/128 by range, which loses nothing".
-use Prim.Native.Nat.{ℕ}
+use Prim.Native.Nat.{ℕ, zero, suc, _+_, _*_, _/_, _%_}
 use mathlib.Core.Bool.{Bool, true, false}
+use mathlib.Core.List.{List, [], _∷_, _++_}
+use lib.Dec.{eqb}
 use lib.IntN.{ℤ, pos, negsuc, natAbs, _*ℤ_}
+use lib.Signed.{ltZ}
 use lib.Ieee.{Float, fin, binary32, mul, round, toSigned}
+use Rattle.laws.specs.Choice.{pick}
 use Rattle.codes.specs.declared.Range.{Range}
 use Rattle.codes.specs.declared.Range.the-variants.{G2, G4, G8, G16, Reserved}
+use Rattle.text.specs.Text.{ascii, digit, decimal}
 
 abbrev pub negative : ℤ → Bool
 negative (pos n) = false
@@ -38,3 +43,32 @@ in1024ths count G4 = pos 2 *ℤ count
 in1024ths count G8 = pos 4 *ℤ count
 in1024ths count G16 = pos 8 *ℤ count
 in1024ths count Reserved = pos 0
+
+-- ---- the text: "the exact decimal (`-2`, `0.2841796875`: no zeros at the end, no exponent)"
+-- the digits of rest / 1024 behind the point, by long division, until nothing is left; so many at most
+unfoldable pub places : ℕ → ℕ → List ℕ
+places zero rest = []
+places (suc k) rest = pick (eqb rest 0) [] (digit (rest * 10 / 1024) ∷ places k (rest * 10 % 1024))
+
+-- after so many nothing is left
+abbrev pub mostPlaces : ℕ
+mostPlaces = 10
+
+-- a point with the digits behind it, where there are any
+unfoldable pub fractionText : ℕ → List ℕ
+fractionText rest = pick (eqb rest 0) [] (ascii "." ++ places mostPlaces rest)
+
+-- n / 1024
+unfoldable pub unsignedText : ℕ → List ℕ
+unsignedText n = decimal (n / 1024) ++ fractionText (n % 1024)
+
+unfoldable pub signedText : ℤ → List ℕ
+signedText n = pick (ltZ n (pos 0)) (ascii "-") [] ++ unsignedText (natAbs n)
+
+-- a count in g
+unfoldable pub gText : ℤ → Range → List ℕ
+gText count range = signedText (in1024ths count range)
+
+-- a sign, three digits, the point and ten digits: no count of 16 bits has a longer text
+abbrev pub longestG : ℕ
+longestG = 5 + mostPlaces
