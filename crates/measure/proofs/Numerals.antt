@@ -5,7 +5,7 @@ use mathlib.Core.Bool.{Bool, true, false}
 use mathlib.Core.List.{List, [], _∷_, _++_}
 use mathlib.Core.Path.{_≡_, refl, sym, ap, _∙_}
 use native.Mathlib.Omega.{arith}
-use borrow.Author.Tests.{ltb-true, ltb-false, lt-ltb, le-ltb, eq-eqb, ne-eqb}
+use borrow.Author.Tests.{ltb-true, ltb-false, eqb-true, eqb-false, lt-ltb, le-ltb, eq-eqb, ne-eqb}
 use lib.Dec.{ltb, eqb}
 use lib.ListN.{length}
 use Rattle.laws.specs.Choice.{pick}
@@ -57,3 +57,11 @@ length-whole n h = go (ltb n 10) refl (ltb n 100) refl
     go true e t f = rw (one-digit n (ltb-true n 10 e)) (omega arith)
     go false e true f = rw (two-digits n (ltb-false n 10 e) (ltb-true n 100 f)) (omega arith)
     go false e false f = rw (three-digits n (ltb-false n 100 f) h) (omega arith)
+
+pub length-places : (k rest : ℕ) → length (places k rest) ≤ k
+length-places zero rest = rw (places-end rest) (omega arith)
+length-places (suc k) rest = go (eqb rest 0) refl (length-places k (rest * 10 % 1024))
+  where
+    go : (t : Bool) → eqb rest 0 ≡ t → length (places k (rest * 10 % 1024)) ≤ k → length (places (suc k) rest) ≤ suc k
+    go true e h = rw (no-places (suc k) rest (eqb-true rest 0 e)) (omega arith)
+    go false e h = rw (more-places k rest (eqb-false rest 0 e)) (omega arith)
