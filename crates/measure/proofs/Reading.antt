@@ -5,17 +5,19 @@ use mathlib.Core.Bool.{Bool, true, false}
 use mathlib.Core.List.{List, [], _∷_, _++_}
 use mathlib.Core.Logic.{_≢_}
 use mathlib.Core.Path.{_≡_, refl, sym, ap, _∙_}
-use native.Mathlib.Nat.{add-mul, mul-assoc, mul-comm, mul-right-comm, div-add-mod', pow-suc}
+use native.Mathlib.Nat.{add-mul, mul-pos, mul-assoc, mul-comm, mul-right-comm, div-add-mod', pow-suc}
 use native.Mathlib.Omega.{arith}
-use borrow.Author.Tests.{eqb-true, eqb-false, ne-eqb}
+use borrow.Author.Tests.{eqb-true, eqb-false, ne-eqb, le-ltb}
 use lib.Dec.{eqb}
+use lib.IntN.{ℤ, pos, negsuc, natAbs}
 use lib.ListN.{length, getD}
+use lib.Signed.{ltZ}
 use Rattle.laws.specs.Choice.{pick}
-use Rattle.text.specs.Text.{digit, mostDigits, decimal, value, valueOn}
+use Rattle.text.specs.Text.{ascii, digit, mostDigits, decimal, value, valueOn}
 use Rattle.text.proofs.Texts.{by-digits}
 use Rattle.text.proofs.Numerals.{value-decimal, decimal-zero, no-zero-first}
-use Rattle.measure.specs.Measure.{places, mostPlaces, fractionText, unsignedText, signedText}
-use Rattle.measure.specs.Promise.{Decimal, isMinus, isPoint, beforePoint, behindPoint, readDecimal, numerator, denominator, pointed, written, Digits}
+use Rattle.measure.specs.Measure.{negative, places, mostPlaces, fractionText, unsignedText, signedText}
+use Rattle.measure.specs.Promise.{Decimal, isMinus, isPoint, beforePoint, behindPoint, readDecimal, numerator, denominator, pointed, written, Digits, Plain, Says}
 use Rattle.measure.proofs.Numerals.{no-places, places-end, more-places}
 
 -- ---- long division
@@ -94,3 +96,114 @@ module _ (rest : ℕ) (h : rest < 1024) where
 
   pub places-none : places mostPlaces rest ≡ [] → rest ≡ 0
   places-none = ends .0
+
+-- ---- what is written is read back
+before : (w f : List ℕ) → Digits w → beforePoint (w ++ pointed f) ≡ w
+before [] [] d = refl
+before [] (c ∷ f) d = refl
+before (c ∷ w) f d = rw (ne-eqb c 46 (omega arith)) (ap (λ (l : List ℕ). c ∷ l) (before w f (d .2)))
+
+behind : (w f : List ℕ) → Digits w → behindPoint (w ++ pointed f) ≡ f
+behind [] [] d = refl
+behind [] (c ∷ f) d = refl
+behind (c ∷ w) f d = rw (ne-eqb c 46 (omega arith)) (behind w f (d .2))
+
+abbrev made : Bool → List ℕ → List ℕ → Decimal
+made minus w f = record { minus = minus; whole = w; fraction = f }
+
+read-written : (minus : Bool) (w f : List ℕ) → Digits w → w ≢ [] → readDecimal (written (made minus w f)) ≡ made minus w f
+read-written true w f d some = λ i. made true (before w f d i) (behind w f d i)
+read-written false [] f d some = absurd (some refl)
+read-written false (c ∷ w) f d some = rw (ne-eqb c 45 (omega arith)) (λ i. made false (before (c ∷ w) f d i) (behind (c ∷ w) f d i))
+
+-- ---- the digits before the point
+digits-more : (l : List ℕ) (d : ℕ) → d < 10 → Digits l → Digits (l ++ (digit d ∷ []))
+digits-more [] d h p = (omega arith, omega arith, tt)
+digits-more (c ∷ l) d h p = (p .0, p .1, digits-more l d h (p .2))
+
+decimal-digits : (n : ℕ) → Digits (decimal n)
+unfolding decimal
+decimal-digits n = by-digits (λ k n l. Digits l) (λ n. tt) (λ k n h. (omega arith, omega arith, tt)) (λ k n l h p. digits-more l (n % 10) (omega arith) p) mostDigits n
+
+module _ (n : ℕ) (h : n < 10 ^ mostDigits) where
+  decimal-some : decimal n ≢ []
+  decimal-some e = go (eqb n 0) refl
+    where
+      go : (t : Bool) → eqb n 0 ≡ t → ⊥
+      go true f = let z : _≡_ {A = ℕ} 0 1 = cc (ap decimal (eqb-true n 0 f), decimal-zero) in omega arith
+      go false f = let ne = eqb-false n 0 f in omega (arith, no-zero-first n h (omega arith), ap (λ (l : List ℕ). getD l 0 0) e)
+
+  decimal-first : (rest : List ℕ) → decimal n ≡ digit 0 ∷ rest → rest ≡ []
+  decimal-first rest e = go (eqb n 0) refl
+    where
+      go : (t : Bool) → eqb n 0 ≡ t → rest ≡ []
+      go true f = cc (ap decimal (eqb-true n 0 f), decimal-zero)
+      go false f = let ne = eqb-false n 0 f in absurd (omega (arith, no-zero-first n h (omega arith), ap (λ (l : List ℕ). getD l 0 0) e))
+
+-- ---- the text
+point-where-digits : (rest : ℕ) → fractionText rest ≡ pointed (places mostPlaces rest)
+unfolding fractionText
+point-where-digits rest = go (eqb rest 0) refl
+  where
+    go : (t : Bool) → eqb rest 0 ≡ t → pick t [] (ascii "." ++ places mostPlaces rest) ≡ pointed (places mostPlaces rest)
+    go true e = rw (no-places mostPlaces rest (eqb-true rest 0 e))
+    go false e = rw (more-places 9 rest (eqb-false rest 0 e))
+
+below-zero : (z : ℤ) → ltZ z (pos 0) ≡ negative z
+below-zero (pos n) = le-ltb n 0 (omega arith)
+below-zero (negsuc n) = refl
+
+abbrev decimalOf : ℤ → Decimal
+decimalOf z = made (negative z) (decimal (natAbs z / 1024)) (places mostPlaces (natAbs z % 1024))
+
+text-is : (z : ℤ) → signedText z ≡ written (decimalOf z)
+unfolding signedText unsignedText
+text-is z = rw (below-zero z, point-where-digits (natAbs z % 1024))
+
+value-append : (n : ℕ) (a b : List ℕ) → valueOn n (a ++ b) ≡ valueOn (valueOn n a) b
+value-append n [] b = refl
+value-append n (c ∷ a) b = value-append (n * 10 + (c - 48)) a b
+
+ten-pos : (k : ℕ) → 0 < 10 ^ k
+ten-pos zero = omega arith
+ten-pos (suc k) = omega (arith, pow-suc 10 k, ten-pos k)
+
+-- of at most 256 g
+module _ (z : ℤ) (few : natAbs z ≤ 262144) where
+  small : natAbs z / 1024 < 10 ^ mostDigits
+  small = omega arith
+
+  rest-below : natAbs z % 1024 < 1024
+  rest-below = omega arith
+
+  read : readDecimal (signedText z) ≡ decimalOf z
+  read = ap readDecimal (text-is z) ∙ read-written (negative z) _ _ (decimal-digits (natAbs z / 1024)) (decimal-some (natAbs z / 1024) small)
+
+  of-1024 : numerator (decimalOf z) * 1024 ≡ natAbs z * denominator (decimalOf z)
+  of-1024 =
+      let w = natAbs z / 1024 in
+      let r = natAbs z % 1024 in
+      let whole : w * 1024 + r ≡ natAbs z = omega arith in
+      rw (value-append 0 (decimal w) (places mostPlaces r), value-decimal w small) (places-value r rest-below w ∙ ap (λ (x : ℕ). x * 10 ^ length (places mostPlaces r)) whole)
+
+  pub says : Says (signedText z) z 1024
+  says = record { sign = ap (λ (d : Decimal). d .minus) read; value = rw read of-1024 }
+
+  no-minus-zero : negative z ≡ true → 0 < numerator (decimalOf z)
+  no-minus-zero m = go z m (numerator (decimalOf z)) of-1024
+    where
+      go : (z : ℤ) → negative z ≡ true → (p : ℕ) → p * 1024 ≡ natAbs z * denominator (decimalOf z) → 0 < p
+      go (pos n) m p e = let z : _≡_ {A = ℕ} 0 1 = cc in absurd (omega arith)
+      go (negsuc n) m zero e = absurd (omega (arith, mul-pos {m = suc n} (omega arith) (ten-pos (length (places mostPlaces (suc n % 1024))))))
+      go (negsuc n) m (suc p) e = omega arith
+
+  pub plain : Plain (signedText z)
+  plain = record {
+    parts = text-is z ∙ sym (ap written read);
+    whole = rw read (decimal-digits (natAbs z / 1024));
+    fraction = rw read (places-digits (natAbs z % 1024) rest-below);
+    some = rw read (decimal-some (natAbs z / 1024) small);
+    first = rw read (decimal-first (natAbs z / 1024) small);
+    last = rw read (places-last (natAbs z % 1024) rest-below);
+    size = rw read no-minus-zero;
+  }
