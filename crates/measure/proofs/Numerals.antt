@@ -7,10 +7,14 @@ use mathlib.Core.Path.{_≡_, refl, sym, ap, _∙_}
 use native.Mathlib.Omega.{arith}
 use borrow.Author.Tests.{ltb-true, ltb-false, eqb-true, eqb-false, lt-ltb, le-ltb, eq-eqb, ne-eqb}
 use lib.Dec.{ltb, eqb}
-use lib.ListN.{length}
+use lib.IntN.{ℤ, pos, natAbs}
+use lib.ListN.{length, length-append}
+use lib.Signed.{mag, ltZ}
 use Rattle.laws.specs.Choice.{pick}
-use Rattle.text.specs.Text.{digit, lastDigits, decimal}
-use Rattle.measure.specs.Measure.{places}
+use Rattle.codes.specs.declared.Range.{Range}
+use Rattle.text.specs.Text.{ascii, digit, lastDigits, decimal}
+use Rattle.measure.specs.Measure.{in1024ths, mostPlaces, places, fractionText, unsignedText, signedText, gText, longestG}
+use Rattle.measure.proofs.Exact.{in-1024ths-size}
 
 -- ---- before the point
 last-one : (k n : ℕ) → n < 10 → lastDigits (suc k) n ≡ digit n ∷ []
@@ -65,3 +69,26 @@ length-places (suc k) rest = go (eqb rest 0) refl (length-places k (rest * 10 % 
     go : (t : Bool) → eqb rest 0 ≡ t → length (places k (rest * 10 % 1024)) ≤ k → length (places (suc k) rest) ≤ suc k
     go true e h = rw (no-places (suc k) rest (eqb-true rest 0 e)) (omega arith)
     go false e h = rw (more-places k rest (eqb-false rest 0 e)) (omega arith)
+
+either-length : (t : Bool) (a b : List ℕ) (most : ℕ) → length a ≤ most → length b ≤ most → length (pick t a b) ≤ most
+either-length true a b most p q = p
+either-length false a b most p q = q
+
+length-fraction : (rest : ℕ) → length (fractionText rest) ≤ 1 + mostPlaces
+unfolding fractionText
+length-fraction rest = either-length (eqb rest 0) [] _ (1 + mostPlaces) (omega arith) (omega (arith, length-places mostPlaces rest))
+
+length-unsigned : (n : ℕ) → n < 1000 * 1024 → length (unsignedText n) ≤ 4 + mostPlaces
+unfolding unsignedText
+length-unsigned n h = simp length-append (omega (arith, length-whole (n / 1024) (omega arith), length-fraction (n % 1024)))
+
+length-signed : (z : ℤ) → natAbs z < 1000 * 1024 → length (signedText z) ≤ longestG
+unfolding signedText
+length-signed z h =
+    let sign = either-length (ltZ z (pos 0)) (ascii "-") [] 1 (omega arith) (omega arith) in
+    simp length-append (omega (arith, length-unsigned (natAbs z) h))
+
+-- no count of 16 bits has a longer text
+pub length-g : (count : ℤ) (range : Range) → mag count < 32768 → length (gText count range) ≤ longestG
+unfolding gText
+length-g count range h = length-signed (in1024ths count range) (omega (arith, in-1024ths-size count h range))

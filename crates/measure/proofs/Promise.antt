@@ -1,26 +1,23 @@
 -- Q-8's promise of a count in g: its float and its text lose nothing.
 -- Assumes nothing.
-use Prim.Native.Nat.{ℕ, zero, suc, _+_, _*_, _%_, _/_, _≤_, _<_}
+use Prim.Native.Nat.{ℕ, zero, suc, _*_, _<_}
 use mathlib.Core.Bool.{Bool, true, false}
-use mathlib.Core.List.{List, _++_}
+use mathlib.Core.List.{List}
 use mathlib.Core.Path.{_≡_, refl, sym, ap, _∙_}
 use native.Mathlib.Nat.{mul-assoc, mul-comm, mul-right-comm, mul-pos, eq-of-mul-eq-mul-right}
 use native.Mathlib.Omega.{arith}
 use lib.IntN.{ℤ, pos, negsuc, negℤ, natAbs, _*ℤ_}
 use lib.Ieee.{Float, nan, inf, fin, up, down}
 use lib.Ieee.Exact.{HasValue}
-use lib.ListN.{length, length-append}
-use lib.Signed.{mag, ltZ}
-use Rattle.laws.specs.Choice.{pick}
+use lib.ListN.{length}
+use lib.Signed.{mag}
 use Rattle.laws.proofs.Ints.{product-size}
 use Rattle.codes.specs.declared.Range.{Range}
 use Rattle.codes.specs.declared.Range.the-variants.{G2, G4, G8, G16, Reserved}
-use Rattle.text.specs.Text.{ascii, decimal}
-use Rattle.measure.specs.Measure.{negative, inG, in1024ths, whole1024ths, mostPlaces, places, fractionText, unsignedText, signedText, gText, longestG}
+use Rattle.measure.specs.Measure.{negative, inG, in1024ths, whole1024ths, signedText, gText}
 use Rattle.measure.specs.Promise.{LosesNothing, readDecimal, numerator, denominator, Plain, Says, ExactText}
 use Rattle.measure.proofs.Exact.{exactly, in-1024ths-size, cast-back}
-use Rattle.measure.proofs.Numerals.{length-whole, length-places}
-use Rattle.measure.proofs.Reading.{says, plain}
+use Rattle.measure.proofs.Reading.{ten-pos, says, plain}
 
 -- ---- the float
 pub exact : (count : ℤ) → mag count < 32768 → LosesNothing count
@@ -88,6 +85,10 @@ module _ (count : ℤ) (h : mag count < 32768) where
   unfolding gText
   text-plain range = plain (in1024ths count range) (in-1024ths-size count h range)
 
+  text-from : (range : Range) → gText count range ≡ signedText (whole1024ths (inG count range))
+  unfolding gText
+  text-from range = ap signedText (sym (cast-back count h range))
+
   pub exact-text : ExactText count
   exact-text = record {
     at2g = text-says G2;
@@ -96,8 +97,22 @@ module _ (count : ℤ) (h : mag count < 32768) where
     at16g = in-counts count 128 8 refl (omega arith) (text-says G16);
     plain = text-plain;
     float = λ range.
-    let d = readDecimal (gText count range) in
-    let s = text-says range in
-    let z = in1024ths count range in
-    rw (s .sign) (same-size (inG count range) (negative z) (natAbs z) 1024 (numerator d) (denominator d) (omega arith) (s .value) (float-1024ths range));
+        let d = readDecimal (gText count range) in
+        let s = text-says range in
+        let z = in1024ths count range in
+        rw (s .sign) (same-size (inG count range) (negative z) (natAbs z) 1024 (numerator d) (denominator d) (omega arith) (s .value) (float-1024ths range));
+    from = text-from;
   }
+
+-- ---- a text says one count
+same-count : (a b : ℤ) → negative a ≡ negative b → natAbs a ≡ natAbs b → a ≡ b
+same-count (pos m) (pos n) s e = ap pos e
+same-count (pos m) (negsuc n) s e = let z : _≡_ {A = ℕ} 0 1 = cc in absurd (omega arith)
+same-count (negsuc m) (pos n) s e = let z : _≡_ {A = ℕ} 0 1 = cc in absurd (omega arith)
+same-count (negsuc m) (negsuc n) s e = let f : m ≡ n = omega arith in ap negsuc f
+
+pub one-count : {text : List ℕ} {a b : ℤ} {perG : ℕ} → Says text a perG → Says text b perG → a ≡ b
+one-count {text = text} {a = a} {b = b} s t =
+    let d = readDecimal text in
+    same-count a b (sym (s .sign) ∙ t .sign)
+    (eq-of-mul-eq-mul-right (denominator d) (ten-pos (length (d .fraction))) (natAbs a) (natAbs b) (sym (s .value) ∙ t .value))

@@ -164,7 +164,7 @@ value-append : (n : ℕ) (a b : List ℕ) → valueOn n (a ++ b) ≡ valueOn (va
 value-append n [] b = refl
 value-append n (c ∷ a) b = value-append (n * 10 + (c - 48)) a b
 
-ten-pos : (k : ℕ) → 0 < 10 ^ k
+pub ten-pos : (k : ℕ) → 0 < 10 ^ k
 ten-pos zero = omega arith
 ten-pos (suc k) = omega (arith, pow-suc 10 k, ten-pos k)
 

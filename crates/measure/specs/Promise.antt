@@ -13,7 +13,7 @@ use Rattle.laws.specs.Choice.{pick}
 use Rattle.codes.specs.declared.Range.{Range}
 use Rattle.codes.specs.declared.Range.the-variants.{G2, G4, G8, G16}
 use Rattle.text.specs.Text.{ascii, digit, value}
-use Rattle.measure.specs.Measure.{negative, inG, gText}
+use Rattle.measure.specs.Measure.{negative, inG, whole1024ths, signedText, gText}
 
 -- ---- the float
 -- "the count times 1/1024, 1/512, 1/256 or 1/128 by range, which loses nothing": the float is that number, with the count's sign
@@ -96,5 +96,6 @@ pub record ExactText (count : ℤ) : Type 0 where
   pub at8g : Says (gText count G8) count 256
   pub at16g : Says (gText count G16) count 128
   pub plain : (range : Range) → Plain (gText count range)
-  -- and so for the float itself
+  -- and so it stands for the float itself, and hangs on nothing else
   pub float : (range : Range) → let d = readDecimal (gText count range) in HasValue (inG count range) (d .minus) (numerator d) (denominator d)
+  pub from : (range : Range) → gText count range ≡ signedText (whole1024ths (inG count range))
