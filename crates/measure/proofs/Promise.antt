@@ -15,9 +15,10 @@ use Rattle.laws.proofs.Ints.{product-size}
 use Rattle.codes.specs.declared.Range.{Range}
 use Rattle.codes.specs.declared.Range.the-variants.{G2, G4, G8, G16, Reserved}
 use Rattle.measure.specs.Measure.{negative, inG, in1024ths, whole1024ths, signedText, gText}
-use Rattle.measure.specs.Promise.{LosesNothing, readDecimal, numerator, denominator, Plain, Says, ExactText}
+use Rattle.measure.specs.Promise.{LosesNothing, readDecimal, numerator, denominator, Plain, Says, Exactly, ExactText}
 use Rattle.measure.proofs.Exact.{exactly, in-1024ths-size, cast-back}
 use Rattle.measure.proofs.Reading.{ten-pos, says, plain}
+use Rattle.measure.proofs.Only.{one-text}
 
 -- ---- the float
 pub exact : (count : ℤ) → mag count < 32768 → LosesNothing count
@@ -85,16 +86,19 @@ module _ (count : ℤ) (h : mag count < 32768) where
   unfolding gText
   text-plain range = plain (in1024ths count range) (in-1024ths-size count h range)
 
+  exactly-says : (range : Range) (perG : ℕ) → 0 < perG → Says (gText count range) count perG → Exactly (gText count range) count perG
+  exactly-says range perG p s = record { says = s; only = λ other q t. one-text q (text-plain range) p t s }
+
   text-from : (range : Range) → gText count range ≡ signedText (whole1024ths (inG count range))
   unfolding gText
   text-from range = ap signedText (sym (cast-back count h range))
 
   pub exact-text : ExactText count
   exact-text = record {
-    at2g = text-says G2;
-    at4g = in-counts count 512 2 refl (omega arith) (text-says G4);
-    at8g = in-counts count 256 4 refl (omega arith) (text-says G8);
-    at16g = in-counts count 128 8 refl (omega arith) (text-says G16);
+    at2g = exactly-says G2 1024 (omega arith) (text-says G2);
+    at4g = exactly-says G4 512 (omega arith) (in-counts count 512 2 refl (omega arith) (text-says G4));
+    at8g = exactly-says G8 256 (omega arith) (in-counts count 256 4 refl (omega arith) (text-says G8));
+    at16g = exactly-says G16 128 (omega arith) (in-counts count 128 8 refl (omega arith) (text-says G16));
     plain = text-plain;
     float = λ range.
         let d = readDecimal (gText count range) in

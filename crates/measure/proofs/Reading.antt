@@ -5,7 +5,7 @@ use mathlib.Core.Bool.{Bool, true, false}
 use mathlib.Core.List.{List, [], _∷_, _++_}
 use mathlib.Core.Logic.{_≢_}
 use mathlib.Core.Path.{_≡_, refl, sym, ap, _∙_}
-use native.Mathlib.Nat.{add-mul, mul-pos, mul-assoc, mul-comm, mul-right-comm, div-add-mod', pow-suc}
+use native.Mathlib.Nat.{add-mul, mul-pos, mul-assoc, mul-comm, mul-right-comm, div-add-mod', pow-suc, one-le-pow}
 use native.Mathlib.Omega.{arith}
 use borrow.Author.Tests.{eqb-true, eqb-false, ne-eqb, le-ltb}
 use lib.Dec.{eqb}
@@ -160,13 +160,12 @@ text-is : (z : ℤ) → signedText z ≡ written (decimalOf z)
 unfolding signedText unsignedText
 text-is z = rw (below-zero z, point-where-digits (natAbs z % 1024))
 
-value-append : (n : ℕ) (a b : List ℕ) → valueOn n (a ++ b) ≡ valueOn (valueOn n a) b
+pub value-append : (n : ℕ) (a b : List ℕ) → valueOn n (a ++ b) ≡ valueOn (valueOn n a) b
 value-append n [] b = refl
 value-append n (c ∷ a) b = value-append (n * 10 + (c - 48)) a b
 
 pub ten-pos : (k : ℕ) → 0 < 10 ^ k
-ten-pos zero = omega arith
-ten-pos (suc k) = omega (arith, pow-suc 10 k, ten-pos k)
+ten-pos k = one-le-pow k 10 (omega arith)
 
 -- of at most 256 g
 module _ (z : ℤ) (few : natAbs z ≤ 262144) where

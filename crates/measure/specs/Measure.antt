@@ -28,15 +28,16 @@ inG count G8 = divided count 256
 inG count G16 = divided count 128
 inG count Reserved = fin false 0 (pos 0)
 
--- ---- back to a whole number
--- the float 1024
+-- ---- in 1/1024 g
+-- 1024 times a float: 1 * 2 ^ 10 is the float 1024
 abbrev pub times1024 : Float → Float
 times1024 g = mul binary32 g (fin false 1 (pos 10))
 
+-- and the number of 32 bits that a cast makes of that
 abbrev pub whole1024ths : Float → ℤ
 whole1024ths g = toSigned 31 (times1024 g)
 
--- how many 1/1024 g a count is
+-- how many 1/1024 g a count is; specs/Promise says that the float gives the same number
 abbrev pub in1024ths : ℤ → Range → ℤ
 in1024ths count G2 = count
 in1024ths count G4 = pos 2 *ℤ count
@@ -45,12 +46,12 @@ in1024ths count G16 = pos 8 *ℤ count
 in1024ths count Reserved = pos 0
 
 -- ---- the text: "the exact decimal (`-2`, `0.2841796875`: no zeros at the end, no exponent)"
--- the digits of rest / 1024 behind the point, by long division, until nothing is left; so many at most
+-- the digits of rest / 1024 behind the point, by long division, until nothing is left; so many at most. A rest below 1024 is
+-- gone after ten, as specs/Promise has it
 unfoldable pub places : ℕ → ℕ → List ℕ
 places zero rest = []
 places (suc k) rest = pick (eqb rest 0) [] (digit (rest * 10 / 1024) ∷ places k (rest * 10 % 1024))
 
--- after so many nothing is left
 abbrev pub mostPlaces : ℕ
 mostPlaces = 10
 
@@ -58,7 +59,7 @@ mostPlaces = 10
 unfoldable pub fractionText : ℕ → List ℕ
 fractionText rest = pick (eqb rest 0) [] (ascii "." ++ places mostPlaces rest)
 
--- n / 1024
+-- n / 1024, in decimal
 unfoldable pub unsignedText : ℕ → List ℕ
 unsignedText n = decimal (n / 1024) ++ fractionText (n % 1024)
 

@@ -90,11 +90,16 @@ pub record Says (text : List ℕ) (count : ℤ) (perG : ℕ) : Type 0 where
   pub sign : readDecimal text .minus ≡ negative count
   pub value : numerator (readDecimal text) * perG ≡ natAbs count * denominator (readDecimal text)
 
+-- it says so, and no other plain text does
+pub record Exactly (text : List ℕ) (count : ℤ) (perG : ℕ) : Type 0 where
+  pub says : Says text count perG
+  pub only : (other : List ℕ) → Plain other → Says other count perG → other ≡ text
+
 pub record ExactText (count : ℤ) : Type 0 where
-  pub at2g : Says (gText count G2) count 1024
-  pub at4g : Says (gText count G4) count 512
-  pub at8g : Says (gText count G8) count 256
-  pub at16g : Says (gText count G16) count 128
+  pub at2g : Exactly (gText count G2) count 1024
+  pub at4g : Exactly (gText count G4) count 512
+  pub at8g : Exactly (gText count G8) count 256
+  pub at16g : Exactly (gText count G16) count 128
   pub plain : (range : Range) → Plain (gText count range)
   -- and so it stands for the float itself, and hangs on nothing else
   pub float : (range : Range) → let d = readDecimal (gText count range) in HasValue (inG count range) (d .minus) (numerator d) (denominator d)
