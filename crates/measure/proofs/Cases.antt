@@ -1,7 +1,7 @@
 -- Texts of counts in g, letter by letter: Q-8's own two among them.
 -- Assumes nothing.
 use mathlib.Core.Path.{_≡_, refl}
-use lib.IntN.{ℤ, pos, negsuc}
+use lib.IntN.{pos, negsuc}
 use Rattle.codes.specs.declared.Range.{Range}
 use Rattle.codes.specs.declared.Range.the-variants.{G2, G4, G8, G16, Reserved}
 use Rattle.text.specs.Text.{ascii, decimal, lastDigits}

@@ -1,6 +1,6 @@
 -- Of a number, with its sign, there is one plain text.
 -- Assumes nothing.
-use Prim.Native.Nat.{ℕ, zero, suc, _+_, _-_, _*_, _%_, _^_, _≤_, _<_}
+use Prim.Native.Nat.{ℕ, zero, suc, _+_, _-_, _*_, _^_, _≤_, _<_}
 use mathlib.Core.Bool.{Bool, true, false}
 use mathlib.Core.List.{List, [], _∷_, _++_}
 use mathlib.Core.Logic.{_≢_}
@@ -13,7 +13,7 @@ use lib.IntN.{ℤ, natAbs}
 use lib.ListN.{length}
 use lib.Pow.{pow-add}
 use Rattle.text.specs.Text.{digit, value, valueOn}
-use Rattle.measure.specs.Promise.{Decimal, readDecimal, numerator, denominator, written, Digits, Plain, Says}
+use Rattle.measure.specs.Promise.{readDecimal, numerator, denominator, written, Digits, Plain, Says}
 use Rattle.measure.proofs.Reading.{value-append, ten-pos}
 
 -- ---- digits of one length

@@ -17,7 +17,7 @@ use Rattle.text.specs.Text.{ascii, digit, mostDigits, decimal, value, valueOn}
 use Rattle.text.proofs.Texts.{by-digits}
 use Rattle.text.proofs.Numerals.{value-decimal, decimal-zero, no-zero-first}
 use Rattle.measure.specs.Measure.{negative, places, mostPlaces, fractionText, unsignedText, signedText}
-use Rattle.measure.specs.Promise.{Decimal, isMinus, isPoint, beforePoint, behindPoint, readDecimal, numerator, denominator, pointed, written, Digits, Plain, Says}
+use Rattle.measure.specs.Promise.{Decimal, beforePoint, behindPoint, readDecimal, numerator, denominator, pointed, written, Digits, Plain, Says}
 use Rattle.measure.proofs.Numerals.{no-places, places-end, more-places}
 
 -- ---- long division
@@ -70,7 +70,7 @@ module _ (rest : ℕ) (h : rest < 1024) where
   all-places : (P : ℕ → List ℕ → Type 0) → P 0 [] → ((rest : ℕ) (l : List ℕ) → rest < 1024 → rest ≢ 0 → P (rest * 10 % 1024) l → P rest (digit (rest * 10 / 1024) ∷ l)) → P rest (places mostPlaces rest)
   all-places P none more = by-places P none more mostPlaces rest h (all-gone rest h)
 
-  pub places-value : (w : ℕ) → valueOn w (places mostPlaces rest) * 1024 ≡ (w * 1024 + rest) * 10 ^ length (places mostPlaces rest)
+  places-value : (w : ℕ) → valueOn w (places mostPlaces rest) * 1024 ≡ (w * 1024 + rest) * 10 ^ length (places mostPlaces rest)
   places-value = all-places (λ rest l. (w : ℕ) → valueOn w l * 1024 ≡ (w * 1024 + rest) * 10 ^ length l)
       (λ w. omega arith)
       (λ rest l h some p w.
@@ -79,7 +79,7 @@ module _ (rest : ℕ) (h : rest < 1024) where
       let t : 48 + d - 48 ≡ d = omega arith in
       rw t (p (w * 10 + d) ∙ rw (e, pow-suc) (mul-assoc (w * 1024 + rest) 10 (10 ^ length l) ∙ ap (λ (x : ℕ). (w * 1024 + rest) * x) (mul-comm 10 (10 ^ length l)))))
 
-  pub places-digits : Digits (places mostPlaces rest)
+  places-digits : Digits (places mostPlaces rest)
   places-digits = all-places (λ rest l. Digits l) tt (λ rest l h some p. (omega arith, omega arith, p))
 
   ends : (places mostPlaces rest ≡ [] → rest ≡ 0) × ((front : List ℕ) → places mostPlaces rest ≢ front ++ (digit 0 ∷ []))
@@ -91,11 +91,8 @@ module _ (rest : ℕ) (h : rest < 1024) where
       ))
 
   -- no zero at the end
-  pub places-last : (front : List ℕ) → places mostPlaces rest ≢ front ++ (digit 0 ∷ [])
+  places-last : (front : List ℕ) → places mostPlaces rest ≢ front ++ (digit 0 ∷ [])
   places-last = ends .1
-
-  pub places-none : places mostPlaces rest ≡ [] → rest ≡ 0
-  places-none = ends .0
 
 -- ---- what is written is read back
 before : (w f : List ℕ) → Digits w → beforePoint (w ++ pointed f) ≡ w

@@ -1,5 +1,4 @@
-use borrow.Author.Needs.{needs}
-use lib.Ieee.{ofBits, toSigned}
+use lib.Ieee.{ofBits}
 use lib.Ieee.Casts.{toSigned-in}
 use mir.Facts.{toZ-ofZ}
 use Rattle.measure.specs.Measure.{times1024}

@@ -3,7 +3,7 @@ use mathlib.Core.Bool.{false}
 use mathlib.Core.Path.{_≡_}
 use Prim.Native.Nat.{ℕ, suc, _^_}
 use lib.IntN.{ℤ, negsuc}
-use lib.Ieee.{Float, fin, binary32, mul, ofInt, ofBits}
+use lib.Ieee.{fin, binary32, mul, ofInt, ofBits}
 use mir.Syntax.{w16}
 use mir.Val.{SFits, toZ, ofZ}
 use mir.Facts.{toZ-ofZ}
