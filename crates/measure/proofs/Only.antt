@@ -102,16 +102,16 @@ module _ {t u : List ℕ} (p : Plain t) (q : Plain u) where
       let b = readDecimal u in
       let places : length (a .fraction) ≡ length (b .fraction) =
       equal (length (a .fraction)) (length (b .fraction))
-      (longer (numerator a) (length (a .fraction)) (b .whole) (b .fraction) (q .fraction) (q .last) e)
-      (longer (numerator b) (length (b .fraction)) (a .whole) (a .fraction) (p .fraction) (p .last) (sym e)) in
+      (longer (numerator a) (length (a .fraction)) (b .whole) (b .fraction) (q .fraction) (q .noZeroLast) e)
+      (longer (numerator b) (length (b .fraction)) (a .whole) (a .fraction) (p .fraction) (p .noZeroLast) (sym e)) in
       let f : numerator a ≡ numerator b =
       eq-of-mul-eq-mul-right (denominator b) (ten-pos (length (b .fraction))) (numerator a) (numerator b) (e ∙ ap (λ (k : ℕ). numerator b * 10 ^ k) places) in
       let r = same-digits (a .fraction) (b .fraction) (value (a .whole)) (value (b .whole)) (p .fraction) (q .fraction) places
       (sym (value-append 0 (a .whole) (a .fraction)) ∙ f ∙ value-append 0 (b .whole) (b .fraction)) in
       let w : length (a .whole) ≡ length (b .whole) =
       equal (length (a .whole)) (length (b .whole))
-      (shorter (a .whole) (b .whole) (p .whole) (q .whole) (p .some) (q .first) (r .0))
-      (shorter (b .whole) (a .whole) (q .whole) (p .whole) (q .some) (p .first) (sym (r .0))) in
+      (shorter (a .whole) (b .whole) (p .whole) (q .whole) (p .notEmpty) (q .noZeroFirst) (r .0))
+      (shorter (b .whole) (a .whole) (q .whole) (p .whole) (q .notEmpty) (p .noZeroFirst) (sym (r .0))) in
       let s = same-digits (a .whole) (b .whole) 0 0 (p .whole) (q .whole) w (r .0) in
       λ i. record { minus = sign i; whole = s .1 i; fraction = r .1 i }
 

@@ -198,8 +198,8 @@ module _ (z : ℤ) (few : natAbs z ≤ 262144) where
     parts = text-is z ∙ sym (ap written read);
     whole = rw read (decimal-digits (natAbs z / 1024));
     fraction = rw read (places-digits (natAbs z % 1024) rest-below);
-    some = rw read (decimal-some (natAbs z / 1024) small);
-    first = rw read (decimal-first (natAbs z / 1024) small);
-    last = rw read (places-last (natAbs z % 1024) rest-below);
-    size = rw read no-minus-zero;
+    notEmpty = rw read (decimal-some (natAbs z / 1024) small);
+    noZeroFirst = rw read (decimal-first (natAbs z / 1024) small);
+    noZeroLast = rw read (places-last (natAbs z % 1024) rest-below);
+    noMinusZero = rw read no-minus-zero;
   }

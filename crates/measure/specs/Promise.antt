@@ -77,12 +77,10 @@ pub record Plain (text : List ℕ) : Type 0 where
   pub whole : Digits (readDecimal text .whole)
   pub fraction : Digits (readDecimal text .fraction)
   -- a digit before the point, and a zero in front only where it is the only one
-  pub some : readDecimal text .whole ≢ []
-  pub first : (rest : List ℕ) → readDecimal text .whole ≡ ascii "0" ++ rest → rest ≡ []
-  -- no zero at the end
-  pub last : (front : List ℕ) → readDecimal text .fraction ≢ front ++ ascii "0"
-  -- no -0
-  pub size : readDecimal text .minus ≡ true → 0 < numerator (readDecimal text)
+  pub notEmpty : readDecimal text .whole ≢ []
+  pub noZeroFirst : (rest : List ℕ) → readDecimal text .whole ≡ ascii "0" ++ rest → rest ≡ []
+  pub noZeroLast : (front : List ℕ) → readDecimal text .fraction ≢ front ++ ascii "0"
+  pub noMinusZero : readDecimal text .minus ≡ true → 0 < numerator (readDecimal text)
 
 -- ---- the text
 -- where a g is so many counts: it stands for the count divided by them, and has a minus exactly where the count is negative
