@@ -11,6 +11,7 @@ use Rattle.follow.specs.declared.Next.{Next}
 use Rattle.follow.proofs.Maps.{Respects, imageOf, run-image, printed-image}
 use Rattle.playback.specs.Replay.{replays}
 use Rattle.answers.specs.Answer.{answers}
+use Rattle.sheeting.specs.Sheeting.{sheets}
 use Rattle.jobs.specs.Job.{Seat, seat, working, worker, printedBy}
 use Rattle.jobs.specs.declared.Job.{Job}
 use Rattle.jobs.specs.declared.Task.{Task}
@@ -26,6 +27,7 @@ record Seated (p : Seat) : Type 0 where
 seated : (k : Task) → Seated (seat k)
 seated task.Replay = record { lawful = replays; there = λ j s. refl; again = λ j s s′. refl; same = λ j. refl }
 seated task.Answer = record { lawful = answers; there = λ j s. refl; again = λ j s s′. refl; same = λ j. refl }
+seated task.Sheet = record { lawful = sheets; there = λ j s. refl; again = λ j s s′. refl; same = λ j. refl }
 
 -- ---- at any seat
 module _ (p : Seat) (at : Seated p) where

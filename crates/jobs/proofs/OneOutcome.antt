@@ -5,6 +5,8 @@ use Rattle.laws.specs.Outcome.{Settled}
 use Rattle.laws.proofs.Outcome.{settles, meet}
 use Rattle.jobs.proofs.Job.to_replay as to-replay
 use Rattle.jobs.proofs.Job.to_answer as to-answer
+use Rattle.jobs.proofs.Job.to_sheet as to-sheet
+use Rattle.jobs.proofs.Job.sheet as sheet
 use Rattle.jobs.proofs.Job.records as records
 use Rattle.jobs.proofs.task_of as task-of
 use Rattle.jobs.proofs.run as run
@@ -17,6 +19,12 @@ to-replay-settled = settles (λ κs a r r′ s s′ p q. (meet p q, refl))
 
 pub to-answer-settled : Settled to-answer.ended (λ M. to-answer.clauses) (λ M. to-answer.spec)
 to-answer-settled = settles (λ κs a r r′ s s′ p q. (meet p q, refl))
+
+pub to-sheet-settled : Settled to-sheet.ended (λ M. to-sheet.clauses) (λ M. to-sheet.spec)
+to-sheet-settled = settles (λ κs a r r′ s s′ p q. (meet p q, refl))
+
+pub sheet-settled : Settled sheet.ended (λ M. sheet.clauses) (λ M. sheet.spec)
+sheet-settled = settles (λ κs a r r′ s s′ p q. (meet p q, refl))
 
 pub records-settled : Settled records.ended (λ M. records.clauses) (λ M. records.spec)
 records-settled = settles (λ κs a r r′ s s′ p q. (meet p q, refl))

@@ -1,18 +1,21 @@
-// Who follows a log for a program, by its task: the replay, or the answer. One pump serves them all.
+// Who follows a log for a program, by its task: the replay, the answer, or the sheet. One pump serves them all.
 ghost use Prim.Native.Nat.{_-_};
 ghost use mathlib.Core.Path.{_≡_};
 ghost use lib.ListN.{length};
 ghost use Rattle.follow.specs.Follow.{runOf, Running};
-ghost use Rattle.jobs.specs.Job.{taskOf, toReplay, toAnswer, worker, recordCount};
+ghost use Rattle.jobs.specs.Job.{taskOf, toReplay, toAnswer, toSheet, worker, recordCount, sheetIn};
 use answers::Answering;
 use answers::Asked;
 use follow::Next;
 use playback::Replay;
+use sheeting::LogSheet;
+use sheeting::Sheeting;
 
 // What a program does with a log.
 pub enum Task {
     Replay,
     Answer,
+    Sheet,
 }
 
 // The tasks by number.
@@ -20,12 +23,15 @@ pub const REPLAY: u8 = 0;
 
 pub const ANSWER: u8 = 1;
 
+pub const SHEET: u8 = 2;
+
 pub fn task_of(number: u8) -> Task
     ensures { λ r. ⌜ r ≡ taskOf number ⌝ }
 {
     match number {
         0 => Task::Replay,
-        _ => Task::Answer,
+        1 => Task::Answer,
+        _ => Task::Sheet,
     }
 }
 
@@ -33,6 +39,7 @@ pub fn task_of(number: u8) -> Task
 pub struct Job {
     replay: Replay,
     answering: Answering,
+    sheeting: Sheeting,
 }
 
 // What a run did: why it ended, the number of the refusal that stopped it (0 where none did), the place in the log and the place behind
@@ -60,6 +67,7 @@ impl Job {
         Job {
             replay: Replay::start(pins),
             answering: Answering::start(Asked::Stretches),
+            sheeting: Sheeting::start(),
         }
     }
 
@@ -70,7 +78,27 @@ impl Job {
         Job {
             replay: Replay::start(false),
             answering: Answering::start(asked),
+            sheeting: Sheeting::start(),
         }
+    }
+
+    // The sheet of a log, before its version byte.
+    pub fn to_sheet() -> Self
+        ensures { λ r. ⌜ r ≡ toSheet ⌝ }
+    {
+        Job {
+            replay: Replay::start(false),
+            answering: Answering::start(Asked::Stretches),
+            sheeting: Sheeting::start(),
+        }
+    }
+
+    // The sheet of what came.
+    pub fn sheet(self) -> LogSheet
+        ensures { λ r. ⌜ r ≡ sheetIn self ⌝ }
+    {
+        let sheeting = self.sheeting;
+        sheeting.sheet()
     }
 
     // How many records came to a task.
@@ -79,26 +107,33 @@ impl Job {
     {
         let replay = self.replay;
         let answering = self.answering;
+        let sheeting = self.sheeting;
         match task {
             Task::Replay => record_before(replay.next_number()),
             Task::Answer => answering.records(),
+            Task::Sheet => sheeting.records(),
         }
     }
 }
 
-// A run of the replay, and one of the answer.
+// A run of the replay, one of the answer, and one of the sheet.
 fn run_replay(job: Job, log: &[u8], last: bool, out: &mut [u8]) -> Ran
     ensures { λ r. ⌜ Running (worker Task.Replay) (now (out .entry)) (runOf (worker Task.Replay) job (now (log .entry)) last (length (now (out .entry)))) (now (out .exit)) (r .next) (r .refusal) (r .job) (r .used) (r .to) ⌝ }
 {
     let replay = job.replay;
     let answering = job.answering;
+    let sheeting = job.sheeting;
     let ran = playback::run(replay, log, last, out);
     let replay = ran.replay;
     let next = ran.next;
     Ran {
         next,
         refusal: ran.refusal,
-        job: Job { replay, answering },
+        job: Job {
+            replay,
+            answering,
+            sheeting,
+        },
         used: ran.used,
         to: ran.to,
     }
@@ -109,15 +144,42 @@ fn run_answer(job: Job, log: &[u8], last: bool, out: &mut [u8]) -> Ran
 {
     let replay = job.replay;
     let answering = job.answering;
+    let sheeting = job.sheeting;
     let ran = answers::run(answering, log, last, out);
     let answering = ran.answering;
     let next = ran.next;
     Ran {
         next,
         refusal: ran.refusal,
-        job: Job { replay, answering },
+        job: Job {
+            replay,
+            answering,
+            sheeting,
+        },
         used: ran.used,
         to: ran.to,
+    }
+}
+
+fn run_sheet(job: Job, log: &[u8], last: bool, out: &mut [u8]) -> Ran
+    ensures { λ r. ⌜ Running (worker Task.Sheet) (now (out .entry)) (runOf (worker Task.Sheet) job (now (log .entry)) last (length (now (out .entry)))) (now (out .exit)) (r .next) (r .refusal) (r .job) (r .used) (r .to) ⌝ }
+{
+    let replay = job.replay;
+    let answering = job.answering;
+    let sheeting = job.sheeting;
+    let ran = sheeting::run(sheeting, log, last, &*out);
+    let sheeting = ran.sheeting;
+    let next = ran.next;
+    Ran {
+        next,
+        refusal: ran.refusal,
+        job: Job {
+            replay,
+            answering,
+            sheeting,
+        },
+        used: ran.used,
+        to: 0,
     }
 }
 
@@ -128,6 +190,7 @@ pub fn run(task: u8, job: Job, log: &[u8], last: bool, out: &mut [u8]) -> Ran
 {
     match task {
         0 => run_replay(job, log, last, out),
-        _ => run_answer(job, log, last, out),
+        1 => run_answer(job, log, last, out),
+        _ => run_sheet(job, log, last, out),
     }
 }
