@@ -9,7 +9,10 @@ run-spec =
     (tie.spec
     (λ c κs. tt)
     (λ c κs. tt)
+    (λ c κs. tt)
     (λ c. search needs)
     (λ c. let r = c .before .before in rw (r .before .before .match .keys1) (r .run-replay .ensures))
     (λ c. search needs)
-    (λ c. let r = c .before .before in rw (ne-eqb _ 0 (r .before .before .match .rest .1)) (r .run-answer .ensures)))
+    (λ c. let r = c .before .before in rw (r .before .before .match .keys2) (r .run-answer .ensures))
+    (λ c. search needs)
+    (λ c. let r = c .before .before in let n = r .before .before .match .rest in rw (ne-eqb _ 0 (n .0 .1), ne-eqb _ 1 (n .1)) (r .run-sheet .ensures)))
