@@ -1,2 +1,4 @@
 pub mod Sizes
+pub mod Lengths
+pub mod Plain
 pub mod OneOutcome
