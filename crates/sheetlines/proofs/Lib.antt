@@ -1,0 +1,5 @@
+pub mod Sizes
+pub mod Lengths
+pub mod Plain
+pub mod Cases
+pub mod OneOutcome
