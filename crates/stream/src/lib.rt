@@ -7,7 +7,7 @@ ghost use lib.ListN.{length};
 ghost use Rattle.follow.specs.Follow.{Running};
 ghost use Rattle.playback.specs.Replay.{printed as Replay·printed};
 ghost use Rattle.answers.specs.Answer.{printed as Answer·printed};
-ghost use Rattle.jobs.specs.Job.{taskOf, worker, printedBy, toReplay, toAnswer};
+ghost use Rattle.jobs.specs.Job.{taskOf, worker, printedBy, toReplay, toAnswer, toSheet};
 ghost use Rattle.window.specs.Window.{Within};
 ghost use Rattle.stream.specs.Pump.{pumpStart, ranOver, afterRun, isOn, isWait, howAfter, MoreReadAs, BehindWrite, TurnedAs, endedAt, PumpedAs, statusOf};
 use answers::Asked;
@@ -18,11 +18,15 @@ use jobs::ANSWER;
 use jobs::Job;
 use jobs::REPLAY;
 use jobs::Ran;
+use jobs::SHEET;
 use jobs::Task;
 use jobs::run;
 use jobs::task_of;
 use window::Window;
 use window::refill;
+
+// No descriptor.
+const NOWHERE: i32 = -1;
 
 // The job, as it is behind the text that is written; and the window of the buffer, where the bytes of the input stand that are there and
 // not used.
@@ -231,6 +235,13 @@ pub fn pump_answer(input: i32, output: i32, asked: Asked) -> Ended
     ensures { λ r. ⌜ PumpedAs (r .how) (Answer·printed asked) Task.Answer (toAnswer asked) r ⌝ }
 {
     pump(input, output, ANSWER, Job::to_answer(asked))
+}
+
+// The sheet of the log at a descriptor, in the job that is handed back. Nothing is printed, so nothing is written to any descriptor.
+pub fn pump_sheet(input: i32) -> Ended
+    ensures { λ r. ⌜ PumpedAs (r .how) (printedBy Task.Sheet toSheet) Task.Sheet toSheet r ⌝ }
+{
+    pump(input, NOWHERE, SHEET, Job::to_sheet())
 }
 
 // The status of a program that came to its end so: 0 done, 1 input or output failed, 3 a log that was refused.
