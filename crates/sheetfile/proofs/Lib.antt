@@ -1,0 +1,5 @@
+pub mod Tests
+pub mod Sums
+pub mod Lengths
+pub mod Pieces
+pub mod OneOutcome
