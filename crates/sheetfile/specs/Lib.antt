@@ -1,3 +1,4 @@
 pub mod Format
 pub mod Whole
 pub mod Reader
+pub mod Trips
