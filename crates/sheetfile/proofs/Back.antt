@@ -11,7 +11,7 @@ use lib.IntN.{ℤ}
 use lib.ListN.{length, getD, take, drop, length-drop}
 use lib.Seq.{take-add, take-all, drop-drop}
 use mir.Syntax.{w16, w64}
-use mir.Val.{Fits, SFits, toZ, ofZ}
+use mir.Val.{Fits, SFits, toZ}
 use mir.Facts.{ofZ-toZ, sfits-toZ}
 use Rattle.laws.specs.Choice.{pick, both}
 use Rattle.laws.proofs.Finite.{left, right}
@@ -21,12 +21,10 @@ use Rattle.benchlog.specs.Reader.{signedAt}
 use Rattle.benchlog.specs.Whole.{Bytes}
 use Rattle.benchlog.proofs.Signed.{parted4, fits4}
 use Rattle.benchlog.proofs.Bodies.{bytes-drop, listed}
-use Rattle.sheets.specs.declared.Extremes.{Extremes}
 use Rattle.sheets.specs.declared.Extremes.the-variants.{NoSample, Of}
-use Rattle.sheets.specs.declared.Tally.{Tally}
 use Rattle.sheetfile.specs.Format.{mark, version, bigEndian8, signed8, flagOf, smallestOf, largestOf, tallyBytes, axesBytes, rangesBytes, headBytes, fourNumbers, countsBytes, encode, size}
 use Rattle.sheetfile.specs.Reader.{fourIn, eightIn, extremesOf, tallyIn, axesIn, rangesIn, monthIn, tallyStands, axesStand, rangesStand, headStands}
-use Rattle.sheetfile.specs.Whole.{ExtremesFit, TallyFits, AxesFit, RangesFit, CountsFit, NumbersFit}
+use Rattle.sheetfile.specs.Whole.{ExtremesFit, TallyFits, AxesFit, RangesFit, NumbersFit}
 
 -- ---- pieces that lie one behind the other
 module _ (n : ℕ) (s : List ℕ) where

@@ -16,7 +16,6 @@ use Rattle.sheetfile.specs.Format.{size, rangesPlace}
 use Rattle.sheetfile.specs.Whole.{isWhole}
 use Rattle.sheetfile.specs.Reader.{monthIn, headStands, rangesStand, isSheet, decode}
 use Rattle.sheetfile.specs.Trips.{Writes, Trips}
-use Rattle.sheetfile.specs.declared.MonthRead.{MonthRead}
 use Rattle.sheetfile.specs.declared.MonthRead.the-variants.{Is, NoSheet}
 use Rattle.sheetfile.proofs.Written.{written-read}
 use Rattle.sheetfile.proofs.Back.{month-fits, month-back}

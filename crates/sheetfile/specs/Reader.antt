@@ -40,7 +40,7 @@ axesIn s = record { x = tallyIn s; y = tallyIn (drop tallyLength s); z = tallyIn
 unfoldable pub rangesIn : List ℕ → ByRange
 rangesIn s = record { g2 = axesIn s; g4 = axesIn (drop axesLength s); g8 = axesIn (drop (2 * axesLength) s); g16 = axesIn (drop (3 * axesLength) s) }
 
--- the count of this number
+-- the n-th of the counts, from 0 on
 abbrev pub countIn : List ℕ → ℕ → ℕ
 countIn s n = eightIn (drop (countsPlace + n * numberLength) s)
 

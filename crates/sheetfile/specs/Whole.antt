@@ -45,7 +45,8 @@ countsAddUp s = addUp (s .accepted) (s .taken) (s .held) (s .lost) (s .cleared)
 unfoldable pub isWhole : Month → Bool
 isWhole m = both (countsAddUp (m .sheet)) (both (leb (m .refused) (m .logs)) (rangesAreWhole (m .sheet .ranges)))
 
--- ---- months whose counts have 64 bits, whose extremes 16 and whose sums 64: every month that a program holds is such a one
+-- ---- months whose counts have 64 bits, whose extremes 16 and whose sums 64. Every month that a program holds is such a one: the writer's
+-- `put_month` promises it of whatever month it is handed, by the types of its fields alone
 abbrev pub ExtremesFit : Extremes → Type 0
 ExtremesFit NoSample = Unit {0}
 ExtremesFit (Of smallest largest) = SFits w16 smallest × SFits w16 largest
@@ -64,6 +65,9 @@ pub record RangesFit (r : ByRange) : Type 0 where
   pub g4 : AxesFit (r .g4)
   pub g8 : AxesFit (r .g8)
   pub g16 : AxesFit (r .g16)
+
+abbrev pub FourFit : ℕ → ℕ → ℕ → ℕ → Type 0
+FourFit a b c d = (a < 2 ^ 64) × (b < 2 ^ 64) × (c < 2 ^ 64) × (d < 2 ^ 64)
 
 pub record CountsFit (m : Month) : Type 0 where
   pub accepted : m .sheet .accepted < 2 ^ 64

@@ -1,4 +1,3 @@
-use mathlib.Core.Path.{_≡_}
 use borrow.Author.Needs.{needs}
 use Rattle.sheetfile.specs.Reader.{fourIn, headStands}
 use Rattle.sheetfile.proofs.head_stands.Statement.{statement}

@@ -23,6 +23,8 @@ put-axes-spec =
     let z = c .before .before in
     let y = z .before .before .before .before in
     let x = y .before .before .before .before in
-    let a = x .before .before .before .args in
-    three (now (a .out)) (a .at) 13 (tallyBytes (a .axes .x)) (tallyBytes (a .axes .y)) (tallyBytes (a .axes .z)) (length-tally _) (length-tally _) (length-tally _)
-    (omega arith) (x .put-tally .ensures) (y .put-tally2 .ensures) (z .put-tally3 .ensures) .is))
+    let a = x .before .before .before .args in (
+      three (now (a .out)) (a .at) 13 (tallyBytes (a .axes .x)) (tallyBytes (a .axes .y)) (tallyBytes (a .axes .z)) (length-tally _) (length-tally _) (length-tally _)
+          (omega arith) (x .put-tally .ensures .0) (y .put-tally2 .ensures .0) (z .put-tally3 .ensures .0) .is,
+      record { x = x .put-tally .ensures .1; y = y .put-tally2 .ensures .1; z = z .put-tally3 .ensures .1 },
+    )))

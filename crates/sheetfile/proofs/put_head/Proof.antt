@@ -1,6 +1,5 @@
 use mathlib.Core.Path.{refl}
 use native.Mathlib.Omega.{arith}
-use lib.ListN.{length-set}
 use borrow.Author.Needs.{needs}
 use Rattle.benchlog.proofs.Places.{put-store}
 use Rattle.sheetfile.specs.Format.{headBytes}

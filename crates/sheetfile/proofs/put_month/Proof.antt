@@ -29,6 +29,6 @@ put-month-spec =
     let m = a .month in
     let l : length (headBytes ++ countsBytes m) ≡ 69 = omega (arith, length-append headBytes (countsBytes m), length-head, length-counts m) in
     let p = put-whole (now (a .out)) (a .at) headBytes 5 length-head (omega arith) (head .put-head .ensures) in
-    let q = put-behind (now (a .out)) (a .at) headBytes (countsBytes m) 5 64 length-head (length-counts m) (omega arith) p (counts .put-counts .ensures) in
-    let r = put-behind (now (a .out)) (a .at) (headBytes ++ countsBytes m) (rangesBytes (m .sheet .ranges)) 69 156 l (length-ranges (m .sheet .ranges)) (omega arith) q (ranges .put-ranges .ensures) in
-    r .is))
+    let q = put-behind (now (a .out)) (a .at) headBytes (countsBytes m) 5 64 length-head (length-counts m) (omega arith) p (counts .put-counts .ensures .0) in
+    let r = put-behind (now (a .out)) (a .at) (headBytes ++ countsBytes m) (rangesBytes (m .sheet .ranges)) 69 156 l (length-ranges (m .sheet .ranges)) (omega arith) q (ranges .put-ranges .ensures .0) in
+    (r .is, record { counts = counts .put-counts .ensures .1; ranges = ranges .put-ranges .ensures .1 })))

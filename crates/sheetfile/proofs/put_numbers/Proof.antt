@@ -26,5 +26,8 @@ put-numbers-spec =
     let s = t .before .before .before .before in
     let f = s .before .before .before .before in
     let a = f .before .before .before .args in
-    four (now (a .out)) (a .at) 8 (bigEndian8 (a .first)) (bigEndian8 (a .second)) (bigEndian8 (a .third)) (length-eight _) (length-eight _) (length-eight _) (bigEndian8 (a .fourth)) (length-eight _)
-    (omega arith) (f .put-eight .ensures) (s .put-eight2 .ensures) (t .put-eight3 .ensures) (d .put-eight4 .ensures) .is))
+    let fits = f .before .before .before .fits in (
+      four (now (a .out)) (a .at) 8 (bigEndian8 (a .first)) (bigEndian8 (a .second)) (bigEndian8 (a .third)) (length-eight _) (length-eight _) (length-eight _) (bigEndian8 (a .fourth)) (length-eight _)
+          (omega arith) (f .put-eight .ensures) (s .put-eight2 .ensures) (t .put-eight3 .ensures) (d .put-eight4 .ensures) .is,
+      (fits .first .fits, fits .second .fits, fits .third .fits, fits .fourth .fits),
+    )))

@@ -27,6 +27,8 @@ put-ranges-spec =
     let t = d .before .before .before .before in
     let s = t .before .before .before .before in
     let f = s .before .before .before .before in
-    let a = f .before .before .before .args in
-    four (now (a .out)) (a .at) 39 (axesBytes (a .ranges .g2)) (axesBytes (a .ranges .g4)) (axesBytes (a .ranges .g8)) (length-axes _) (length-axes _) (length-axes _) (axesBytes (a .ranges .g16)) (length-axes _)
-    (omega arith) (f .put-axes .ensures) (s .put-axes2 .ensures) (t .put-axes3 .ensures) (d .put-axes4 .ensures) .is))
+    let a = f .before .before .before .args in (
+      four (now (a .out)) (a .at) 39 (axesBytes (a .ranges .g2)) (axesBytes (a .ranges .g4)) (axesBytes (a .ranges .g8)) (length-axes _) (length-axes _) (length-axes _) (axesBytes (a .ranges .g16)) (length-axes _)
+          (omega arith) (f .put-axes .ensures .0) (s .put-axes2 .ensures .0) (t .put-axes3 .ensures .0) (d .put-axes4 .ensures .0) .is,
+      record { g2 = f .put-axes .ensures .1; g4 = s .put-axes2 .ensures .1; g8 = t .put-axes3 .ensures .1; g16 = d .put-axes4 .ensures .1 },
+    )))

@@ -1,12 +1,12 @@
 -- The flag, the smallest, the largest and the sum are written one behind the other.
 use mathlib.Core.List.{_∷_, _++_}
-use mathlib.Core.Path.{_≡_, refl, _∙_, ap}
+use mathlib.Core.Path.{_≡_, refl}
 use native.Mathlib.Omega.{arith}
 use denote.Ref.{now}
-use lib.ListN.{length, length-set}
+use lib.ListN.{length-set}
 use mir.Facts.{toZ-ofZ}
 use mir.Syntax.{w16, w64}
-use mir.Val.{SFits, ofZ}
+use mir.Val.{SFits, toZ, ofZ}
 use borrow.Author.Needs.{needs}
 use Rattle.benchlog.specs.Format.{signed}
 use Rattle.benchlog.proofs.Places.{Put, put-first, put-on, put-length}
@@ -20,25 +20,23 @@ upto-smallest : (c : tie.After-out) →
     let flag = c .before .before .before in
     let s = flag .before .before in
     let a = s .before .before .args in
-    Put (now (a .out)) (a .at) (flag .flag-of .result ∷ signed (s .smallest-of .result)) (c .before .put-signed .last .0)
+    Put (now (a .out)) (a .at) (flag .flag-of .result ∷ signed (toZ w16 (ofZ w16 (s .smallest-of .result)))) (c .before .put-signed .last .0)
 upto-smallest c =
     let flag = c .before .before .before in
     let s = flag .before .before in
     let a = s .before .before .args in
-    let fits : SFits w16 (s .smallest-of .result) = search needs in
-    put-on (signed (s .smallest-of .result)) (put-first (now (a .out)) (a .at) (flag .flag-of .result) (omega arith)) (omega arith) refl (rw (toZ-ofZ fits) at (c .before .put-signed .ensures))
+    put-on (signed (toZ w16 (ofZ w16 (s .smallest-of .result)))) (put-first (now (a .out)) (a .at) (flag .flag-of .result) (omega arith)) (omega arith) refl (c .before .put-signed .ensures)
 
 upto-largest : (c : tie.After-out2) →
     let flag = c .before .before .before .before .before .before .before in
     let l = flag .before in
     let s = l .before in
     let a = s .before .before .args in
-    Put (now (a .out)) (a .at) (flag .flag-of .result ∷ signed (s .smallest-of .result) ++ signed (l .largest-of .result)) (c .before .put-signed2 .last .0)
+    Put (now (a .out)) (a .at) (flag .flag-of .result ∷ signed (toZ w16 (ofZ w16 (s .smallest-of .result))) ++ signed (toZ w16 (ofZ w16 (l .largest-of .result)))) (c .before .put-signed2 .last .0)
 upto-largest c =
     let first = c .before .before .before .before in
     let l = first .before .before .before .before in
-    let fits : SFits w16 (l .largest-of .result) = search needs in
-    put-on (signed (l .largest-of .result)) (upto-smallest first) (omega arith) refl (rw (toZ-ofZ fits) at (c .before .put-signed2 .ensures))
+    put-on (signed (toZ w16 (ofZ w16 (l .largest-of .result)))) (upto-smallest first) (omega arith) refl (c .before .put-signed2 .ensures)
 
 all : (c : tie.After-out3) →
     let bits = c .before .before in
@@ -46,7 +44,7 @@ all : (c : tie.After-out3) →
     let l = flag .before in
     let s = l .before in
     let a = s .before .before .args in
-    Put (now (a .out)) (a .at) (flag .flag-of .result ∷ signed (s .smallest-of .result) ++ signed (l .largest-of .result) ++ bigEndian8 (bits .bits-of .result)) (c .before .put-eight .last .0)
+    Put (now (a .out)) (a .at) (flag .flag-of .result ∷ signed (toZ w16 (ofZ w16 (s .smallest-of .result))) ++ signed (toZ w16 (ofZ w16 (l .largest-of .result))) ++ bigEndian8 (bits .bits-of .result)) (c .before .put-eight .last .0)
 all c =
     let bits = c .before .before in
     put-on (bigEndian8 (bits .bits-of .result)) (upto-largest (bits .before .before .before .before)) (omega (arith, length-eight (bits .bits-of .result))) refl (c .before .put-eight .ensures)
@@ -74,6 +72,10 @@ put-tally-spec =
     let l = flag .before in
     let s = l .before in
     let a = s .before .before .args in
+    let fits-smallest : SFits w16 (s .smallest-of .result) = search needs in
+    let fits-largest : SFits w16 (l .largest-of .result) = search needs in
     let fits : SFits w64 (a .tally .sum) = search needs in
-    let sum : bits .bits-of .result ≡ ofZ w64 (a .tally .sum) = rw (toZ-ofZ fits) at (bits .bits-of .ensures) in
-    rw (← flag .flag-of .ensures, ← s .smallest-of .ensures, ← l .largest-of .ensures, ← sum) (all (c .before) .is)))
+    let sum : bits .bits-of .result ≡ ofZ w64 (a .tally .sum) = rw (toZ-ofZ fits) at (bits .bits-of .ensures) in (
+      rw (← flag .flag-of .ensures, ← s .smallest-of .ensures .0, ← l .largest-of .ensures, ← sum) (rw (toZ-ofZ fits-smallest, toZ-ofZ fits-largest) at (all (c .before) .is)),
+      record { extremes = s .smallest-of .ensures .1; sum = fits },
+    )))

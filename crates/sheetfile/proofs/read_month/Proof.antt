@@ -1,5 +1,3 @@
-use mathlib.Core.Bool.{true, false}
-use mathlib.Core.Path.{_≡_}
 use borrow.Author.Tests.{eq-eqb, ne-eqb}
 use borrow.Author.Needs.{needs}
 use Rattle.sheetfile.specs.Reader.{isSheet, decode}

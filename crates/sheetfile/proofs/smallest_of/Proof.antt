@@ -1,3 +1,4 @@
+use mathlib.Core.Path.{refl}
 use mir.Facts.{toZ-ofZ}
 use mir.Syntax.{w16}
 use mir.Val.{SFits}
@@ -11,7 +12,9 @@ smallest-of-spec =
     (tie.spec
     (λ c. search needs)
     (λ c. search needs)
-    (λ c. simp (c .enum-told .given .1))
+    (λ c. rw (c .enum-told .given .1) (refl, tt))
     (λ c.
-    let fits : SFits w16 (c .before .extremes .given .0 .0) = search needs in
-    simp (c .before .extremes .given .1, toZ-ofZ fits)))
+    let own = c .before .extremes .given in
+    let s : SFits w16 (own .0 .0) = search needs in
+    let l : SFits w16 (own .0 .1 .0) = search needs in
+    rw (own .1) (toZ-ofZ s, (s, l))))

@@ -25,4 +25,4 @@ write-month-spec =
     (λ c. search needs)
     (λ c.
     let i = c .before .before .before .before in
-    rw (length-encode (i .before .before .before .args .month)) (simp (← i .before .lacks-room .ensures, i .if1 .left) (refl, c .before .before .put-month .ensures))))
+    rw (length-encode (i .before .before .before .args .month)) (simp (← i .before .lacks-room .ensures, i .if1 .left) (refl, c .before .before .put-month .ensures .0))))
