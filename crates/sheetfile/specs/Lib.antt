@@ -1,0 +1,4 @@
+pub mod Format
+pub mod Whole
+pub mod Reader
+pub mod Trips
