@@ -291,11 +291,11 @@ guard() { # PID, of what it was started by
         wait $! || pause=1 # a sleep that knows whole seconds alone
     done
 }
-tied='[ "$PPID" = "$0" ] || exit 137; printf t >&3; exec "$@" 2>&5 5>&-' # the command could have ended before the tie was made
+tied='[ "$PPID" = "$0" ] || exit 137; printf t >&3; exec "$@" 2>&9 9>&-' # the command could have ended before the tie was made
 tie() { # HOW COMMAND..: in a shell of its own, which becomes COMMAND. HOW is setpriv or guard, and descriptor 3 is told that it is tied
     how_tied=$1
     shift
-    if [ "$how_tied" = setpriv ]; then exec "$setpriv" --pdeathsig KILL /bin/sh -c "$tied" $$ "$@" 5>&2 2>/dev/null; fi
+    if [ "$how_tied" = setpriv ]; then exec "$setpriv" --pdeathsig KILL /bin/sh -c "$tied" $$ "$@" 9>&2 2>/dev/null; fi
     if { IFS= read -r fields </proc/self/stat; } 2>/dev/null; then
         # by exec, since the shell would keep a copy of what it redirects for one call, and the guard would hold the pipes open
         (exec </dev/null >/dev/null 2>&1 3>&- 4>&- 5>&- 6>&- 7>&- 8>&- 9>&-; guard "${fields%% *}") &
@@ -310,13 +310,17 @@ start() { # ARG..
     tie "${tied_by:-guard}" "$@"
 }
 
-# How far a long log is, on standard error where that is a terminal and the text goes elsewhere: a line that is written anew each second
-# and wiped at the end. A descriptor that is handed on shares its place in the file, so the place of this process is the program's.
+# How far it is, on standard error where that is a terminal and the text goes elsewhere: a line that is written anew each second and wiped
+# at the end. Of a long log, in per cent: a descriptor that is handed on shares its place in the file, so the place of this process is the
+# program's. Of several logs that one program opens, how many are done: it writes a byte behind each to descriptor 5, a file of target's
+# that has no name any more.
 long=16777216
 to_terminal= # the command's own output, whatever stands between it and the program
 [ ! -t 1 ] || to_terminal=yes
 in_front() { IFS= read -r fields </proc/self/stat && set -- ${fields##*) } && [ "$3" = "$6" ]; } # its group has the terminal
-show_far() { # SIZE, and the log on descriptor 5
+percent() { far=$(($1 * 100 / size)) && far="$label $((far < 100 ? far : 100)) %"; } # PLACE
+logs_done() { far="$1 of $several_logs logs"; } # PLACE
+show_far() { # HOW, in words, of a place; and the place is that of descriptor 5
     shown= label=$log
     if [ "$log" = - ]; then label='standard input'; fi
     label=$(harmless "$(printf '%.40s' "${label##*/}")")
@@ -325,16 +329,21 @@ show_far() { # SIZE, and the log on descriptor 5
         sleep 1 &
         wait $!
         in_front && read -r word place </proc/self/fdinfo/5 || continue
-        far=$((place * 100 / $1))
-        shown="bin/$name: $label $((far < 100 ? far : 100)) %"
+        "$1" "$place"
+        shown="bin/$name: $far"
         printf '%s\r' "$shown" >&2
     done
 }
-watcher=
+watcher= several_logs=
+is_watched() { [ -t 2 ] && [ -z "$to_terminal" ] && [ -r /proc/self/fdinfo/2 ]; }
 watch_log() {
-    [ -t 2 ] && [ -z "$to_terminal" ] && [ -f /proc/self/fd/0 ] && [ -r /proc/self/fdinfo/0 ] || return 0
-    size=$(stat -Lc %s /proc/self/fd/0 2>/dev/null) && [ "$size" -gt "$long" ] || return 0
-    { show_far "$size" >/dev/null & } 5<&0
+    is_watched || return 0
+    if [ -n "$several_logs" ]; then
+        show_far logs_done >/dev/null &
+    else
+        [ -f /proc/self/fd/0 ] && size=$(stat -Lc %s /proc/self/fd/0 2>/dev/null) && [ "$size" -gt "$long" ] || return 0
+        { show_far percent >/dev/null & } 5<&0
+    fi
     watcher=$!
     trap 'unwatch; kill -s INT $$; exit 130' INT # which the watcher does not see
 }
@@ -346,21 +355,31 @@ unwatch() {
     watcher=
 }
 
-# The program on standard input. What it writes to descriptor 3 is its digit, the status, behind what `tie` wrote there.
+# The program on standard input, or on the logs that it is told to open. What it writes to descriptor 3 is its digit, the status, behind what
+# `tie` wrote there. A command that sets retold has all that the program says before the digit, and says it itself with `retell`: a program
+# writes names as they are.
+retold=
+digit_of() { # ARG..
+    exec 3>&1 >&4 4>&-
+    [ -n "$several_logs" ] || exec 5>&-
+    [ -z "$retold" ] || exec 2>&3
+    start "$@"
+}
 run() { # ARG..
     watch_log
     tied_by=guard
     if [ -n "$setpriv" ] && is_command; then tied_by=setpriv; fi
-    { digit=$(exec 3>&1 >&4 4>&-; start "$@"); } 4>&1
+    { digit=$(digit_of "$@"); } 4>&1
     ended=$?
     if [ "$tied_by" = setpriv ] && [ -z "$digit" ]; then # one that cannot tie: nothing was started
         setpriv= tied_by=guard
-        { digit=$(exec 3>&1 >&4 4>&-; start "$@"); } 4>&1
+        { digit=$(digit_of "$@"); } 4>&1
         ended=$?
     fi
     case $digit in g*) digit=${digit#g}; kill "${digit%% *}" 2>/dev/null; digit=${digit#* } ;; t*) digit=${digit#t} ;; esac
     unwatch
     runs $$ || exit 137 # the command was killed, and this is a part of it
+    case $digit in *"$newline"*) retell "${digit%"$newline"*}"; digit=${digit##*"$newline"} ;; esac
     if [ "$ended" -eq 141 ]; then exit 141; fi # the reader closed the pipe
     if [ "$ended" -ne 0 ]; then say "the program ended with status $ended"; return 1; fi
     case $digit in
@@ -368,17 +387,29 @@ run() { # ARG..
     *) say "the program ended with no status"; return 1 ;;
     esac
 }
+run_several() { # HOW MANY ARG..
+    given=$1 dots=$top/target/$crate.dots.$$
+    shift
+    if ! is_watched || ! (: >"$dots") 2>/dev/null; then run "$@"; return; fi
+    { rm -f "$dots"; several_logs=$given; run "$@"; } 5>"$dots"
+}
+newline='
+'
 
-# Whether a log can be read, and where not, a line that says why. - is standard input.
+# Whether a log can be read, and where not, a line that says why. - is standard input. A command whose text is of no one log, or whose files
+# are no logs, says so.
+whole='; the text is whole up to record 0' kind=log
 can_read() { # LOG
     if [ "$1" = - ]; then
-        true 2>/dev/null 9<&0 || { say "the input is closed; the text is whole up to record 0"; return 1; }
+        true 2>/dev/null 9<&0 || { say "the input is closed$whole"; return 1; }
         return
     fi
-    if [ -d "$1" ]; then say "$1 is a folder, not a log"; return 1; fi
+    if [ -d "$1" ]; then say "$1 is a folder, not a $kind"; return 1; fi
     if [ ! -e "$1" ]; then say "there is no file $1"; return 1; fi
     if [ ! -r "$1" ]; then say "$1 cannot be read"; return 1; fi
 }
+
+hint() { [ ! -t 0 ] || say "the $kind is read from the terminal; ctrl-D ends it"; }
 
 # The program on one log: a file, or standard input where its name is -.
 one() { # LOG ARG..
@@ -386,7 +417,7 @@ one() { # LOG ARG..
     shift
     can_read "$log" || return 1
     if [ "$log" != - ]; then run "$@" <"$log"; return; fi
-    [ ! -t 0 ] || say "the log is read from the terminal; ctrl-D ends it"
+    hint
     run "$@"
 }
 
