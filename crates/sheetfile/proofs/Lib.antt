@@ -5,4 +5,5 @@ pub mod Pieces
 pub mod Written
 pub mod Back
 pub mod Trips
+pub mod Joins
 pub mod OneOutcome
