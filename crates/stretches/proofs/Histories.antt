@@ -125,7 +125,7 @@ one-more s many (sampled f) n = omega arith
 one-more s many (readOut b) n = omega arith
 one-more s many nothing n = omega arith
 
-accepted-more : (es : List Event) (e : Event) → totals accelerometer (e ∷ es) .accepted ≤ suc (totals accelerometer es .accepted)
+pub accepted-more : (es : List Event) (e : Event) → totals accelerometer (e ∷ es) .accepted ≤ suc (totals accelerometer es .accepted)
 unfolding totals
 accepted-more es e = one-more (setting es) (heldNow accelerometer es) (saysHere es e) (totals accelerometer es)
 

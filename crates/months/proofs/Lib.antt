@@ -1,0 +1,4 @@
+pub mod Order
+pub mod Tallies
+pub mod Over
+pub mod Few
