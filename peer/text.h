@@ -65,6 +65,25 @@ static inline void put_signed(struct output *out, int64_t number)
     put_number(out, number < 0 ? -(uint64_t)number : (uint64_t)number);
 }
 
+/* A count in g, which is so many 2048ths of the range: as a decimal that has an end, its digits worked
+   out one by one until nothing is left, so that the last is no 0. */
+static inline void put_in_g(struct output *out, int count, unsigned g)
+{
+    unsigned parts = (unsigned)(count < 0 ? -count : count) * g;
+
+    if (count < 0)
+        put_char(out, '-');
+    put_number(out, parts / 2048);
+    parts %= 2048;
+    if (parts > 0)
+        put_char(out, '.');
+    while (parts > 0) {
+        parts *= 10;
+        put_number(out, parts / 2048);
+        parts %= 2048;
+    }
+}
+
 static inline void put_hex(struct output *out, const uint8_t *bytes, size_t length)
 {
     static const char digit[] = "0123456789ABCDEF";

@@ -52,18 +52,17 @@ static bool add_sample(struct totals *s, const struct account *a, const struct p
 {
     struct span *in_force = spans_in(s, a->in_force.g);
     struct span next[PEER_AXES];
+    bool fits = a->since.accepted > 0;
 
-    if (a->since.accepted == 0)
-        return false;
     for (int axis = 0; axis < PEER_AXES; axis++) {
         int count = peer_stored(t, axis);
 
         next[axis] = in_force[axis];
-        if (!add_span(&next[axis], &(struct span){true, count, count, count}))
-            return false;
+        fits &= add_span(&next[axis], &(struct span){true, count, count, count});
     }
-    memcpy(in_force, next, sizeof next);
-    return true;
+    if (fits)
+        memcpy(in_force, next, sizeof next);
+    return fits;
 }
 
 enum peer_answer totals_record(struct totals *s, const struct account *a, const struct peer *t,
@@ -99,8 +98,7 @@ enum peer_answer totals_join(struct totals *month, const struct totals *more)
     for (int range = 0; range < TOTAL_RANGES; range++)
         for (int axis = 0; axis < PEER_AXES; axis++)
             fits &= add_span(&both.of[range][axis], &more->of[range][axis]);
-    if (!fits)
-        return PEER_TOO_LARGE;
-    *month = both;
-    return PEER_DONE;
+    if (fits)
+        *month = both;
+    return fits ? PEER_DONE : PEER_TOO_LARGE;
 }
