@@ -69,7 +69,7 @@ static inline void put_signed(struct output *out, int64_t number)
    out one by one until nothing is left, so that the last is no 0. */
 static inline void put_in_g(struct output *out, int count, unsigned g)
 {
-    unsigned parts = (unsigned)(count < 0 ? -count : count) * g;
+    unsigned parts = (count < 0 ? -(unsigned)count : (unsigned)count) * g;
 
     if (count < 0)
         put_char(out, '-');
