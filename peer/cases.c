@@ -1,9 +1,11 @@
-/* Checks peer.c and account.c by calls and replay.c and answer.c by running them, against the cases
-   that the rules print and the edges around them. Usage: cases [REPLAY [ANSWER]], commands that run
-   the two programs. */
+/* Checks peer.c, account.c and totals.c by calls and replay.c, answer.c and sheet.c by running them,
+   against the cases that the rules print and the edges around them. Usage: cases [REPLAY [ANSWER
+   [SHEET]]], commands that run the three programs. */
 #include "account.h"
 #include "peer.h"
 #include "records.h"
+#include "text.h"
+#include "totals.h"
 
 #include <stdarg.h>
 #include <stdio.h>
@@ -3146,23 +3148,31 @@ static void offsets(void)
 
 /* ---- programs ---- */
 
-static const char *replay_command = "./replay", *answer_command = "./answer";
+static const char *replay_command = "./replay", *answer_command = "./answer",
+                  *sheet_command = "./sheet";
+
+static bool text_is(const char *wanted)
+{
+    FILE *out = fopen("case.out", "rb");
+    char got[4096];
+    size_t length;
+
+    if (out == NULL)
+        return false;
+    length = fread(got, 1, sizeof got, out);
+    fclose(out);
+    return length == strlen(wanted) && memcmp(got, wanted, length) == 0;
+}
 
 /* Whether a program gives this text for case.log, with input in one-byte pieces where slow is
    true. */
 static bool gives_text(const char *command, const char *arguments, bool slow, const char *wanted)
 {
-    char line[256], got[4096];
-    size_t length;
-    FILE *out;
+    char line[256];
 
     snprintf(line, sizeof line, "%s%s %s%s >case.out", slow ? "dd bs=1 if=case.log 2>&- | " : "",
              command, arguments, slow ? "" : " <case.log");
-    if (system(line) != 0 || (out = fopen("case.out", "rb")) == NULL)
-        return false;
-    length = fread(got, 1, sizeof got, out);
-    fclose(out);
-    return length == strlen(wanted) && memcmp(got, wanted, length) == 0;
+    return system(line) == 0 && text_is(wanted);
 }
 
 static void write_log(const uint8_t *log, size_t length)
@@ -3496,6 +3506,413 @@ static void account_and_twin(void)
     check(a.since.taken > 1000 && a.since.lost > 1000 && a.since.cleared > 1000 &&
               a.since.refused > 1000,
           "the account had something to count");
+}
+
+/* ---- totals at the ends of 64 bits ---- */
+
+static bool same_span(const struct span *a, const struct span *b)
+{
+    return a->any == b->any && a->smallest == b->smallest && a->largest == b->largest &&
+           a->sum == b->sum;
+}
+
+static bool same_totals(const struct totals *a, const struct totals *b)
+{
+    for (int i = 0; i < TOTAL_COUNTS; i++)
+        if (a->count[i] != b->count[i])
+            return false;
+    for (int range = 0; range < TOTAL_RANGES; range++)
+        for (int axis = 0; axis < PEER_AXES; axis++)
+            if (!same_span(&a->of[range][axis], &b->of[range][axis]))
+                return false;
+    return true;
+}
+
+/* Totals of which no two are the same, with none at 8 g. */
+static struct totals some_totals(unsigned first)
+{
+    struct totals s = {0};
+
+    for (int i = 0; i < TOTAL_COUNTS; i++)
+        s.count[i] = first++;
+    for (int range = 0; range < TOTAL_RANGES; range++)
+        for (int axis = 0; range != 2 && axis < PEER_AXES; axis++, first += 4)
+            s.of[range][axis] = (struct span){true, -(int)first, (int)first + 1, first + 2};
+    return s;
+}
+
+/* What more logs make of a month: 0 with these totals, or 15 with those that it had. */
+static void joins(const struct totals *month, const struct totals *more, const struct totals *wanted,
+                  const char *what, int which)
+{
+    struct totals got = *month;
+    enum peer_answer answer = totals_join(&got, more);
+
+    check(answer == (wanted != NULL ? PEER_DONE : PEER_TOO_LARGE) &&
+              same_totals(&got, wanted != NULL ? wanted : month),
+          "%s %d", what, which);
+}
+
+static void joins_of_counts(uint64_t first, uint64_t second, bool fits)
+{
+    for (int i = 0; i < TOTAL_COUNTS; i++) {
+        struct totals month = some_totals(100), more = some_totals(900), both = some_totals(100);
+
+        totals_join(&both, &more);
+        month.count[i] = first;
+        more.count[i] = second;
+        both.count[i] = first + second;
+        joins(&month, &more, fits ? &both : NULL, "a count at its end", i);
+        joins(&more, &month, fits ? &both : NULL, "a count at its end, the other way", i);
+    }
+}
+
+static void joins_of_sums(int64_t first, int64_t second, bool fits)
+{
+    for (int i = 0; i < TOTAL_RANGES * PEER_AXES; i++) {
+        struct totals month = some_totals(100), more = some_totals(900), both;
+        struct span *of = &month.of[i / PEER_AXES][i % PEER_AXES];
+        struct span *beside = &more.of[i / PEER_AXES][i % PEER_AXES];
+
+        *of = (struct span){true, -7, 12, 0};
+        *beside = (struct span){true, -3, 40, 0};
+        both = month;
+        totals_join(&both, &more);
+        of->sum = first;
+        beside->sum = second;
+        both.of[i / PEER_AXES][i % PEER_AXES] =
+            (struct span){true, -7, 40, fits ? first + second : 0};
+        joins(&month, &more, fits ? &both : NULL, "a sum at its end", i);
+        joins(&more, &month, fits ? &both : NULL, "a sum at its end, the other way", i);
+    }
+}
+
+static void totals_at_their_ends(void)
+{
+    joins_of_counts(UINT64_MAX, 0, true);
+    joins_of_counts(UINT64_MAX, 1, false);
+    joins_of_counts(UINT64_MAX - 5, 5, true);
+    joins_of_counts(UINT64_MAX - 5, 6, false);
+    joins_of_counts(UINT64_MAX, UINT64_MAX, false);
+    joins_of_counts(UINT64_MAX / 2 + 1, UINT64_MAX / 2, true);
+    joins_of_counts(UINT64_MAX / 2 + 1, UINT64_MAX / 2 + 1, false);
+    joins_of_sums(INT64_MAX, 0, true);
+    joins_of_sums(INT64_MAX, 1, false);
+    joins_of_sums(INT64_MAX - 5, 5, true);
+    joins_of_sums(INT64_MAX - 5, 6, false);
+    joins_of_sums(INT64_MAX, INT64_MAX, false);
+    joins_of_sums(INT64_MIN, 0, true);
+    joins_of_sums(INT64_MIN, -1, false);
+    joins_of_sums(INT64_MIN + 5, -5, true);
+    joins_of_sums(INT64_MIN + 5, -6, false);
+    joins_of_sums(INT64_MIN, INT64_MIN, false);
+    joins_of_sums(INT64_MIN, INT64_MAX, true);
+    joins_of_sums(INT64_MIN, 1, true);
+    joins_of_sums(INT64_MAX, -1, true);
+}
+
+/* A twin, its account and its totals, at one record after the other. */
+struct counting {
+    struct peer twin;
+    struct account account;
+    struct totals totals;
+};
+
+static struct counting begin_counting(void)
+{
+    struct counting c = {.totals = {{0}, {{{0}}}}};
+
+    peer_power_up(&c.twin);
+    account_power_up(&c.account);
+    return c;
+}
+
+static enum peer_answer count_body(struct counting *c, const uint8_t *body)
+{
+    uint8_t bytes[UINT8_MAX];
+    enum peer_answer answer = play_body(&c->twin, body, bytes);
+
+    account_record(&c->account, body, answer);
+    return totals_record(&c->totals, &c->account, &c->twin, body, answer);
+}
+
+/* A record that fits, or one that leaves the totals as they were. */
+static void counts_up(struct counting *c, const char *hex, bool fits)
+{
+    struct totals before = c->totals;
+    uint8_t body[8];
+    enum peer_answer answer;
+
+    from_hex(hex, body);
+    answer = count_body(c, body);
+    check(answer == (fits ? PEER_DONE : PEER_TOO_LARGE), "%s: %d", hex, answer);
+    check(fits || same_totals(&c->totals, &before), "%s changes no total where one would not fit",
+          hex);
+}
+
+static void clock_at_its_end(void)
+{
+    struct counting c = begin_counting();
+
+    c.totals.count[TOTAL_CLOCK] = UINT64_MAX - UINT32_MAX;
+    counts_up(&c, "05 FF FF FF FF", true);
+    check(c.totals.count[TOTAL_CLOCK] == UINT64_MAX, "the clock is at its end");
+    counts_up(&c, "05 00 00 00 00", true);
+    counts_up(&c, "05 00 00 00 01", false);
+    counts_up(&c, "05 FF FF FF FF", false);
+    counts_up(&c, "03 00 01 00 02 00 03 00", true);
+    c.totals.count[TOTAL_CLOCK] = UINT64_MAX - UINT32_MAX + 1;
+    counts_up(&c, "05 FF FF FF FF", false);
+    counts_up(&c, "05 FF FF FF FE", true);
+    check(c.totals.count[TOTAL_CLOCK] == UINT64_MAX, "the clock is at its end again");
+}
+
+/* A sum that would pass an end does not fit, though the samples that come would bring it back. The
+   other two axes are as they were, whichever it is. */
+static void sums_at_their_ends(void)
+{
+    static const char *const code[TOTAL_RANGES] = {"01 0F 03", "01 0F 05", "01 0F 08", "01 0F 0C"};
+    static const char *const at_7[PEER_AXES] = {
+        "03 00 07 00 01 00 01 00", "03 00 01 00 07 00 01 00", "03 00 01 00 01 00 07 00"};
+    static const char *const at_minus_7[PEER_AXES] = {
+        "03 FF F9 FF FF FF FF 00", "03 FF FF FF F9 FF FF 00", "03 FF FF FF FF FF F9 00"};
+
+    for (int i = 0; i < TOTAL_RANGES * PEER_AXES; i++) {
+        int range = i / PEER_AXES, axis = i % PEER_AXES;
+        struct counting c = begin_counting();
+        struct span *s = &c.totals.of[range][axis];
+
+        counts_up(&c, code[range], true);
+        *s = (struct span){true, -3, 5, INT64_MAX - 7};
+        counts_up(&c, at_7[axis], true);
+        check(s->sum == INT64_MAX && s->largest == 7 && s->smallest == -3, "sum %d at its end", i);
+        counts_up(&c, at_7[axis], false);
+        counts_up(&c, "03 00 01 00 01 00 01 00", false);
+        counts_up(&c, "03 08 00 00 01 00 01 00", true); /* refused */
+        counts_up(&c, "03 00 00 00 00 00 00 00", true);
+        counts_up(&c, at_minus_7[axis], true);
+        s->sum = INT64_MIN + 7;
+        counts_up(&c, at_minus_7[axis], true);
+        check(s->sum == INT64_MIN && s->smallest == -7, "sum %d at its other end", i);
+        counts_up(&c, at_minus_7[axis], false);
+        counts_up(&c, "03 FF FF FF FF FF FF 00", false);
+        counts_up(&c, at_7[axis], true);
+        check(s->sum == INT64_MIN + 7, "sum %d is back", i);
+    }
+}
+
+static void samples_at_their_end(void)
+{
+    struct counting c = begin_counting();
+
+    c.account.since.accepted = UINT64_MAX - 1;
+    counts_up(&c, "03 00 01 00 02 00 03 00", true);
+    counts_up(&c, "03 08 00 00 02 00 03 00", true); /* refused */
+    counts_up(&c, "02 3F 06", true);
+    counts_up(&c, "03 00 01 00 02 00 03 00", false);
+}
+
+/* ---- totals against their history ---- */
+
+enum { DIARY = 400 };
+
+/* The records of a log and their answers. */
+struct diary {
+    int count;
+    uint8_t body[DIARY][8];
+    enum peer_answer answer[DIARY];
+};
+
+/* Mostly samples, some of them outside the 12 bits; ranges, offsets, modes and resets, and clocks. */
+static void random_body(uint8_t body[8])
+{
+    static const uint8_t written[] = {0x0F, 0x0F, 0x0F, 0x38, 0x39, 0x3A, 0x3E, 0x14};
+
+    memset(body, 0, 8);
+    body[0] = draw(3) ? SAMPLE : (uint8_t)(1 + draw(5));
+    for (int i = 1; i < 8; i++)
+        body[i] = (uint8_t)draw(256);
+    if (body[0] == SAMPLE) {
+        for (int axis = 0; axis < PEER_AXES; axis++) {
+            int count = draw(40) ? (int)draw(101) - 70 : (int)draw(4200) - 2100;
+
+            body[1 + 2 * axis] = (uint8_t)((unsigned)count >> 8);
+            body[2 + 2 * axis] = (uint8_t)count;
+        }
+    } else if (body[0] == WRITE) {
+        body[1] = written[draw(8)];
+        body[2] = body[1] == 0x14 ? (draw(2) ? 0xB6 : 0xB5) : body[2];
+    } else if (body[0] == READ) {
+        body[1] = draw(4) ? 0x3F : 0x02;
+        body[2] = (uint8_t)draw(20);
+    }
+}
+
+static struct totals random_log(struct diary *d, int records)
+{
+    struct counting c = begin_counting();
+    int unfit = 0;
+
+    for (d->count = 0; d->count < records; d->count++) {
+        struct peer before = c.twin;
+        uint8_t bytes[UINT8_MAX];
+
+        random_body(d->body[d->count]);
+        d->answer[d->count] = play_body(&before, d->body[d->count], bytes);
+        unfit += count_body(&c, d->body[d->count]) != PEER_DONE;
+    }
+    check(unfit == 0, "a short log fits");
+    totals_end(&c.totals, &c.account, records % 2);
+    return c.totals;
+}
+
+/* The byte of a register at a record, by the last write to it that was accepted; a soft reset gives it
+   back its first one. */
+static unsigned byte_at(const struct diary *d, int record, unsigned address, unsigned first)
+{
+    while (record-- > 0) {
+        const uint8_t *body = d->body[record];
+
+        if (body[0] == WRITE && d->answer[record] == PEER_DONE) {
+            if (body[1] == address)
+                return body[2];
+            if (body[1] == 0x14 && body[2] == 0xB6)
+                return first;
+        }
+    }
+    return first;
+}
+
+static int g_at(const struct diary *d, int record)
+{
+    switch (byte_at(d, record, 0x0F, 0x03) & 0x0F) {
+    case 0x3:
+        return 2;
+    case 0x5:
+        return 4;
+    case 0x8:
+        return 8;
+    default:
+        return 16;
+    }
+}
+
+static int stored_at(const struct diary *d, int record, int axis)
+{
+    unsigned byte = byte_at(d, record, 0x38 + (unsigned)axis, 0x00);
+
+    return stored_by_text(g_at(d, record), byte < 0x80 ? (int)byte : (int)byte - 0x100,
+                          axis_of(d->body[record], axis));
+}
+
+static bool is_accepted_sample(const struct diary *d, int record)
+{
+    return d->body[record][0] == SAMPLE && d->answer[record] == PEER_DONE;
+}
+
+/* Whether a range and an axis have what all the samples of these logs say. */
+static bool span_holds(const struct diary *d, int logs, int g, int axis, const struct span *s)
+{
+    int samples = 0, at_smallest = 0, at_largest = 0, outside = 0;
+    int64_t sum = 0;
+
+    for (; logs-- > 0; d++)
+        for (int i = 0; i < d->count; i++)
+            if (is_accepted_sample(d, i) && g_at(d, i) == g) {
+                int count = stored_at(d, i, axis);
+
+                samples++;
+                at_smallest += count == s->smallest;
+                at_largest += count == s->largest;
+                outside += count < s->smallest || count > s->largest;
+                sum += count;
+            }
+    if (samples == 0)
+        return !s->any;
+    return s->any && at_smallest > 0 && at_largest > 0 && outside == 0 && sum == s->sum;
+}
+
+static bool totals_hold(const struct diary *d, int logs, const struct totals *s)
+{
+    uint64_t accepted = 0, clock = 0;
+
+    for (int log = 0; log < logs; log++)
+        for (int i = 0; i < d[log].count; i++) {
+            const uint8_t *body = d[log].body[i];
+
+            accepted += is_accepted_sample(&d[log], i);
+            if (body[0] == CLOCK)
+                clock += (uint64_t)body[1] * 16777216 + body[2] * 65536u + body[3] * 256u + body[4];
+        }
+    for (int range = 0; range < TOTAL_RANGES; range++)
+        for (int axis = 0; axis < PEER_AXES; axis++)
+            if (!span_holds(d, logs, 2 << range, axis, &s->of[range][axis]))
+                return false;
+    return s->count[TOTAL_ACCEPTED] == accepted && s->count[TOTAL_CLOCK] == clock &&
+           s->count[TOTAL_LOGS] == (uint64_t)logs &&
+           accepted == s->count[TOTAL_TAKEN] + s->count[TOTAL_HELD] + s->count[TOTAL_LOST] +
+                           s->count[TOTAL_CLEARED];
+}
+
+enum { SOME_LOGS = 7 };
+
+/* The sheet over so many of the logs, joined from one end, from the other and in two parts. */
+static void grouped(const struct diary *d, const struct totals *of_log)
+{
+    struct totals forth = {0}, back = {0}, first = {0}, second = {0};
+    int cut = (int)draw(SOME_LOGS + 1);
+
+    for (int i = 0; i < SOME_LOGS; i++) {
+        totals_join(&forth, &of_log[i]);
+        totals_join(&back, &of_log[SOME_LOGS - 1 - i]);
+        totals_join(i < cut ? &first : &second, &of_log[i]);
+    }
+    totals_join(&first, &second);
+    check(totals_hold(d, SOME_LOGS, &forth), "a sheet is what the histories of its logs say");
+    check(same_totals(&forth, &back) && same_totals(&forth, &first), "in any grouping");
+}
+
+static void totals_at_random(void)
+{
+    static struct diary diary[SOME_LOGS];
+    struct totals of_log[SOME_LOGS], empty = {0};
+
+    for (int turn = 0; turn < 40; turn++) {
+        for (int i = 0; i < SOME_LOGS; i++) {
+            of_log[i] = random_log(&diary[i], (int)draw(i == 0 ? 4 : turn % 4 ? 30 : DIARY + 1));
+            check(totals_hold(&diary[i], 1, &of_log[i]), "totals are what their history says");
+            joins(&empty, &of_log[i], &of_log[i], "the empty sheet and log", i);
+            joins(&of_log[i], &empty, &of_log[i], "log, the empty sheet behind it", i);
+        }
+        grouped(diary, of_log);
+    }
+}
+
+/* ---- in g ---- */
+
+/* Each count at each range: the decimal has the value, no 0 at its end and no exponent, and the 32-bit
+   float of it is the count times 1/1024, 1/512, 1/256 or 1/128. */
+static void every_count_in_g(void)
+{
+    static const float step[TOTAL_RANGES] = {1.0f / 1024, 1.0f / 512, 1.0f / 256, 1.0f / 128};
+    static struct output out;
+
+    for (int range = 0; range < TOTAL_RANGES; range++)
+        for (int count = -2048; count <= 2047; count++) {
+            char wanted[32], *last;
+
+            snprintf(wanted, sizeof wanted, "%.12f", (double)count / (1024 >> range));
+            for (last = strchr(wanted, '\0') - 1; *last == '0'; last--)
+                *last = '\0';
+            if (*last == '.')
+                *last = '\0';
+            out.end = 0;
+            put_in_g(&out, count, 2u << range);
+            put_char(&out, '\0');
+            check(strcmp(out.block, wanted) == 0 &&
+                      strtof(out.block, NULL) == (float)count * step[range],
+                  "%d at %d g: %s, %s", count, 2 << range, wanted, out.block);
+        }
 }
 
 /* ---- answer ---- */
@@ -4050,6 +4467,345 @@ static void damaged(void)
             "the log was refused 9 after record 2; what came up to record 3 is not known\n");
 }
 
+/* ---- sheet ---- */
+
+/* Over these files, with case.log as standard input: the text, the status and so many lines on standard
+   error. */
+static void sheet_gives(const char *arguments, int status, int said, const char *wanted)
+{
+    char line[1024];
+
+    snprintf(line, sizeof line,
+             "%s %s <case.log >case.out 2>case.err; test $? = %d -a \"$(wc -l <case.err)\" -eq %d",
+             sheet_command, arguments, status, said);
+    check(system(line) == 0 && text_is(wanted), "sheet %s:\n%s", arguments, wanted);
+    remove("case.err");
+}
+
+#define COUNTS(accepted, taken, held, lost, cleared, clock)                                        \
+    "accepted " #accepted "\ntaken " #taken "\nheld " #held "\nlost " #lost                        \
+    "\ncleared " #cleared "\nclock " #clock "\n"
+#define NO_SAMPLE(g) #g "g x none\n" #g "g y none\n" #g "g z none\n"
+#define NO_SAMPLES NO_SAMPLE(2) NO_SAMPLE(4) NO_SAMPLE(8) NO_SAMPLE(16)
+#define LOGS(logs, refused) "logs " #logs " refused " #refused "\n"
+
+/* Of a log by its name, and of the same on standard input. */
+static void sheet_of(const char *hex, int status, const char *wanted)
+{
+    begin_log(hex);
+    sheet_gives("case.log", status, 0, wanted);
+    sheet_gives("-", status, 0, wanted);
+}
+
+static void sheets_without_samples(void)
+{
+    sheet_of("01", 0, COUNTS(0, 0, 0, 0, 0, 0) NO_SAMPLES LOGS(1, 0));
+    sheet_of("", 3, COUNTS(0, 0, 0, 0, 0, 0) NO_SAMPLES LOGS(1, 1));
+    sheet_of("02 00 05 05 00 00 00 09", 3, COUNTS(0, 0, 0, 0, 0, 0) NO_SAMPLES LOGS(1, 1));
+    sheet_of("01 00 00", 3, COUNTS(0, 0, 0, 0, 0, 0) NO_SAMPLES LOGS(1, 1));
+    sheet_of("01 00 05 05 00 00 00 09", 0, COUNTS(0, 0, 0, 0, 0, 9) NO_SAMPLES LOGS(1, 0));
+    sheet_of("01 00 05 05 00 00 00 09 00 05 05 00 00 01", 3,
+             COUNTS(0, 0, 0, 0, 0, 9) NO_SAMPLES LOGS(1, 1));
+    sheet_of("01 00 05 05 FF FF FF FF 00 05 05 00 00 00 00 00 05 05 FF FF FF FF"
+             "00 05 05 FF FF FF FF",
+             0, COUNTS(0, 0, 0, 0, 0, 12884901885) NO_SAMPLES LOGS(1, 0));
+    sheet_of("01 00 05 05 12 34 56 78 00 05 05 01 00 00 00", 0,
+             COUNTS(0, 0, 0, 0, 0, 322197112) NO_SAMPLES LOGS(1, 0));
+}
+
+#define ONE_READ COUNTS(1, 1, 0, 0, 0, 0)
+#define ONE_HELD COUNTS(1, 0, 1, 0, 0, 0)
+
+/* The printed log, then counts at each range of which the value in g is worked out by hand. */
+static void sheets_in_g(void)
+{
+    sheet_of(printed, 0, ONE_READ "2g x 16 16 16 0.015625 0.015625\n"
+                                  "2g y -16 -16 -16 -0.015625 -0.015625\n2g z 1024 1024 1024 1 1\n"
+                         NO_SAMPLE(4) NO_SAMPLE(8) NO_SAMPLE(16) LOGS(1, 0));
+    sheet_of("01 00 08 03 01 23 FF FD F8 00 00", 0,
+             ONE_HELD "2g x 291 291 291 0.2841796875 0.2841796875\n"
+                      "2g y -3 -3 -3 -0.0029296875 -0.0029296875\n2g z -2048 -2048 -2048 -2 -2\n"
+             NO_SAMPLE(4) NO_SAMPLE(8) NO_SAMPLE(16) LOGS(1, 0));
+    sheet_of("01 00 03 01 0F 05 00 08 03 00 01 FF FF 07 FF 00", 0,
+             ONE_HELD NO_SAMPLE(2) "4g x 1 1 1 0.001953125 0.001953125\n"
+                                   "4g y -1 -1 -1 -0.001953125 -0.001953125\n"
+                                   "4g z 2047 2047 2047 3.998046875 3.998046875\n"
+             NO_SAMPLE(8) NO_SAMPLE(16) LOGS(1, 0));
+    sheet_of("01 00 03 01 0F 08 00 08 03 00 01 FF FF 07 FF 00", 0,
+             ONE_HELD NO_SAMPLE(2) NO_SAMPLE(4) "8g x 1 1 1 0.00390625 0.00390625\n"
+                                                "8g y -1 -1 -1 -0.00390625 -0.00390625\n"
+                                                "8g z 2047 2047 2047 7.99609375 7.99609375\n"
+             NO_SAMPLE(16) LOGS(1, 0));
+    sheet_of("01 00 03 01 0F 0C 00 08 03 F8 00 FF FF 07 FF 00", 0,
+             ONE_HELD NO_SAMPLE(2) NO_SAMPLE(4) NO_SAMPLE(8)
+             "16g x -2048 -2048 -2048 -16 -16\n16g y -1 -1 -1 -0.0078125 -0.0078125\n"
+             "16g z 2047 2047 2047 15.9921875 15.9921875\n" LOGS(1, 0));
+}
+
+#define AT_2_G_ALONE(x, y, z) x "\n" y "\n" z "\n" NO_SAMPLE(4) NO_SAMPLE(8) NO_SAMPLE(16)
+
+/* All accepted samples count, lost ones too: in FIFO mode the last, in STREAM and BYPASS the first. And
+   all axes, whatever 0x3E selects. */
+static void sheets_of_lost_samples(void)
+{
+    begin_log("01 00 03 01 3E 40");
+    add(32, "00 08 03 00 05 00 05 00 05 00");
+    add(1, "00 08 03 07 FF F8 00 00 06 00");
+    sheet_gives("case.log", 0, 0,
+                COUNTS(33, 0, 32, 1, 0, 0)
+                AT_2_G_ALONE("2g x 5 2047 2207 0.0048828125 1.9990234375",
+                             "2g y -2048 5 -1888 -2 0.0048828125",
+                             "2g z 5 6 166 0.0048828125 0.005859375") LOGS(1, 0));
+    begin_log("01 00 03 01 3E 83 00 08 03 07 FF F8 00 00 06 00");
+    add(32, "00 08 03 00 05 00 05 00 05 00");
+    sheet_gives("case.log", 0, 0,
+                COUNTS(33, 0, 32, 1, 0, 0)
+                AT_2_G_ALONE("2g x 5 2047 2207 0.0048828125 1.9990234375",
+                             "2g y -2048 5 -1888 -2 0.0048828125",
+                             "2g z 5 6 166 0.0048828125 0.005859375") LOGS(1, 0));
+    begin_log("01 00 08 03 FF F6 00 0A 00 00 00 00 08 03 FF F7 00 09 00 00 00");
+    sheet_gives("case.log", 0, 0,
+                COUNTS(2, 0, 1, 1, 0, 0)
+                AT_2_G_ALONE("2g x -10 -9 -19 -0.009765625 -0.0087890625",
+                             "2g y 9 10 19 0.0087890625 0.009765625", "2g z 0 0 0 0 0") LOGS(1, 0));
+    begin_spring();
+    sheet_gives("case.log", 0, 0,
+                COUNTS(40, 32, 0, 8, 0, 0) NO_SAMPLE(2) NO_SAMPLE(4) NO_SAMPLE(8)
+                "16g x 16 16 640 0.125 0.125\n16g y 0 0 0 0 0\n16g z 0 0 0 0 0\n" LOGS(1, 0));
+}
+
+/* One byte takes a frame; 0x3E and a soft reset clear those that are held. */
+static void sheets_of_frames(void)
+{
+    begin_frames();
+    sheet_gives("case.log", 0, 0,
+                COUNTS(9, 4, 0, 3, 2, 0)
+                AT_2_G_ALONE("2g x -2048 0 -2048 -2 0", "2g y 0 2047 2048 0 1.9990234375",
+                             "2g z -5 2 -3 -0.0048828125 0.001953125") LOGS(1, 0));
+    begin_log("01 00 03 01 3E 40");
+    add(3, A_SAMPLE);
+    add(1, "00 03 01 3E C0 00 03 01 14 B5 00 03 02 3F 07 00 03 01 3E 40");
+    add(2, A_SAMPLE);
+    add(1, "00 03 01 14 B6 00 03 01 14 B6");
+    add(1, A_SAMPLE);
+    sheet_gives("case.log", 0, 0,
+                COUNTS(6, 2, 1, 0, 3, 0)
+                AT_2_G_ALONE("2g x 0 0 0 0 0", "2g y 0 0 0 0 0", "2g z 0 0 0 0 0") LOGS(1, 0));
+}
+
+/* The range in force at the sample: not one that is refused, nor the one at the readout; a soft reset
+   gives back 2 g. */
+static void sheets_of_ranges(void)
+{
+    sheet_of("01 00 08 03 00 64 00 01 00 00 00 00 03 01 0F 05 00 03 02 3F 06"
+             "00 08 03 00 64 00 02 00 00 00 00 03 01 0F 04 00 08 03 FF F9 00 03 00 00 00"
+             "00 03 01 0F FC 00 08 03 00 08 FF F8 00 00 00 00 03 01 14 B6"
+             "00 08 03 00 09 00 04 00 00 00",
+             0, COUNTS(5, 1, 1, 2, 1, 0)
+             "2g x 9 100 109 0.0087890625 0.09765625\n2g y 1 4 5 0.0009765625 0.00390625\n"
+             "2g z 0 0 0 0 0\n"
+             "4g x -7 100 93 -0.013671875 0.1953125\n4g y 2 3 5 0.00390625 0.005859375\n"
+             "4g z 0 0 0 0 0\n" NO_SAMPLE(8)
+             "16g x 8 8 8 0.0625 0.0625\n16g y -8 -8 -8 -0.0625 -0.0625\n16g z 0 0 0 0 0\n"
+             LOGS(1, 0));
+}
+
+/* What is stored counts, with its offset and held at an end; a given sample that is refused does not,
+   on any axis. */
+static void sheets_of_stored_counts(void)
+{
+    sheet_of(OFFSETS "00 08 03 08 00 F8 00 07 FF 00 00 08 03 00 00 F7 FF 00 00 00", 0,
+             ONE_HELD AT_2_G_ALONE("2g x 2047 2047 2047 1.9990234375 1.9990234375",
+                                   "2g y -2048 -2048 -2048 -2 -2",
+                                   "2g z 1016 1016 1016 0.9921875 0.9921875") LOGS(1, 0));
+    sheet_of("01 00 03 01 38 FF 00 08 03 00 08 00 00 00 00 00 00 03 01 0F 0C"
+             "00 08 03 00 08 00 00 00 00 00 00 03 01 14 B6 00 08 03 00 08 00 00 00 00 00",
+             0, COUNTS(3, 0, 1, 1, 1, 0) "2g x 0 8 8 0 0.0078125\n2g y 0 0 0 0 0\n2g z 0 0 0 0 0\n"
+             NO_SAMPLE(4) NO_SAMPLE(8)
+             "16g x 7 7 7 0.0546875 0.0546875\n16g y 0 0 0 0 0\n16g z 0 0 0 0 0\n" LOGS(1, 0));
+}
+
+#define TIME_AND_SAMPLE "01 00 05 05 00 00 00 07 00 08 03 00 01 00 02 00 03 00"
+
+/* A log counts up to where it is refused. */
+static void sheets_of_damaged_logs(void)
+{
+    static const char one[] = COUNTS(1, 0, 1, 0, 0, 7)
+        AT_2_G_ALONE("2g x 1 1 1 0.0009765625 0.0009765625", "2g y 2 2 2 0.001953125 0.001953125",
+                     "2g z 3 3 3 0.0029296875 0.0029296875") LOGS(1, 1);
+
+    sheet_of(TIME_AND_SAMPLE "00", 3, one);
+    sheet_of(TIME_AND_SAMPLE "00 08 03 00 09 00 09 00 09", 3, one);
+    sheet_of(TIME_AND_SAMPLE "00 04 05 00 00 00 00 08 03 00 09 00 09 00 09 00", 3, one);
+    sheet_of(TIME_AND_SAMPLE "00 09 03 00 09 00 09 00 09 00 00", 3, one);
+    sheet_of(TIME_AND_SAMPLE "00 05 06 00 00 00 09 00 05 05 00 00 00 09", 3, one);
+}
+
+static void save_log(const char *name)
+{
+    if (rename("case.log", name) != 0)
+        perror(name);
+}
+
+#define TWO_LOGS                                                                                   \
+    COUNTS(6, 0, 4, 2, 0, 21)                                                                      \
+    "2g x -1 5 14 -0.0009765625 0.0048828125\n2g y -4 0 -4 -0.00390625 0\n"                        \
+    "2g z 0 2 2 0 0.001953125\n"                                                                   \
+    NO_SAMPLE(4) NO_SAMPLE(8)                                                                      \
+    "16g x 2 2 2 0.015625 0.015625\n16g y -3 -3 -3 -0.0234375 -0.0234375\n16g z 0 0 0 0 0\n"
+#define NOTHING COUNTS(0, 0, 0, 0, 0, 0) NO_SAMPLES
+
+/* Each log starts at power-up, and what each holds at its end is summed. One that ends with 16 g, BYPASS
+   and an offset, and one of FIFO mode; one that is empty and one that is cut at its first record. */
+static void sheets_of_many(void)
+{
+    begin_log("01 00 05 05 00 00 00 14 00 08 03 FF FF FF FC 00 00 00 00 08 03 00 00 00 00 00 02 00"
+              "00 03 01 0F 0C 00 08 03 00 02 FF FD 00 00 00 00 03 01 38 10");
+    save_log("case.a");
+    begin_log("01 00 03 01 3E 40 00 08 03 00 05 00 00 00 00 00 00 08 03 00 05 00 00 00 00 00"
+              "00 08 03 00 05 00 00 00 00 00 00 05 05 00 00 00 01");
+    save_log("case.b");
+    begin_log("");
+    save_log("case.c");
+    begin_log("01 00 05 05 00 00 00");
+    save_log("case.d");
+    begin_log("01");
+    sheet_gives("case.a case.b", 0, 0, TWO_LOGS LOGS(2, 0));
+    sheet_gives("case.b case.a", 0, 0, TWO_LOGS LOGS(2, 0));
+    sheet_gives("case.b - case.a", 0, 0, TWO_LOGS LOGS(3, 0));
+    sheet_gives("case.c case.b case.d case.a", 3, 0, TWO_LOGS LOGS(4, 2));
+    sheet_gives("case.b nosuch case.a", 1, 1, TWO_LOGS LOGS(2, 0));
+    sheet_gives("case.b . case.c case.a nosuch/a nosuch", 1, 3, TWO_LOGS LOGS(3, 1));
+    sheet_gives("nosuch", 1, 1, NOTHING LOGS(0, 0));
+    sheet_gives("", 0, 0, NOTHING LOGS(1, 0));
+    sheet_gives("$(yes case.log | head -n 1000) case.a case.b", 0, 0, TWO_LOGS LOGS(1002, 0));
+}
+
+/* ---- sheets that were printed, joined ---- */
+
+static void print_sheet(const char *log, const char *text)
+{
+    char line[200];
+
+    snprintf(line, sizeof line, "%s %s >%s", sheet_command, log, text);
+    check(system(line) == 0, "sheet %s", log);
+}
+
+static void write_text(const char *name, const char *text)
+{
+    write_log((const uint8_t *)text, strlen(text));
+    save_log(name);
+}
+
+#define NEAR(lost, clock, x, y)                                                                    \
+    COUNTS(0, 0, 0, lost, 0, clock)                                                                \
+    NO_SAMPLE(2) NO_SAMPLE(4) "8g x -1 1 " #x " -0.00390625 0.00390625\n8g y 0 0 " #y " 0 0\n"     \
+    "8g z none\n" NO_SAMPLE(16)
+#define FIRST_OF_TWO                                                                               \
+    NEAR(7, 18446744073709551610, 9223372036854775800, -9223372036854775800) LOGS(1, 0)
+#define TWO_IN_FULL                                                                                \
+    NEAR(11, 18446744073709551615, 9223372036854775807, -9223372036854775808) LOGS(2, 0)
+
+/* What does not fit leaves the month as it was: the sheets before it and those behind it count. */
+static void joined_texts(void)
+{
+    static const char *const second[] = {
+        NEAR(0, 6, 0, 0) LOGS(1, 0), NEAR(0, 0, 8, 0) LOGS(1, 0), NEAR(0, 0, 0, -9) LOGS(1, 0),
+        NEAR(18446744073709551609, 0, 0, 0) LOGS(1, 0), NEAR(5, 5, 8, -8) LOGS(1, 0)};
+
+    print_sheet("case.a", "case.1");
+    print_sheet("case.b", "case.2");
+    sheet_gives("--join case.1 case.2", 0, 0, TWO_LOGS LOGS(2, 0));
+    write_text("case.1", FIRST_OF_TWO);
+    write_text("case.2", NEAR(4, 5, 7, -8) LOGS(1, 0));
+    write_log((const uint8_t *)"", 0);
+    sheet_gives("--join case.1", 0, 0, FIRST_OF_TWO);
+    sheet_gives("--join case.1 case.2", 0, 0, TWO_IN_FULL);
+    for (size_t i = 0; i < sizeof second / sizeof *second; i++) {
+        write_text("case.3", second[i]);
+        write_log((const uint8_t *)"", 0);
+        sheet_gives("--join case.1 case.3", 3, 1, FIRST_OF_TWO);
+        sheet_gives("--join case.1 case.3 case.2", 3, 1, TWO_IN_FULL);
+        sheet_gives("--join nosuch case.1 case.3", 1, 2, FIRST_OF_TWO);
+    }
+    write_text("case.3", NOTHING LOGS(3, 2));
+    write_log((const uint8_t *)"", 0);
+    sheet_gives("--join case.3", 3, 0, NOTHING LOGS(3, 2));
+}
+
+#define FULL_LOG                                                                                   \
+    COUNTS(2, 0, 1, 1, 0, 18446744073709551615)                                                    \
+    AT_2_G_ALONE("2g x -1 8 9223372036854775807 -0.0009765625 0.0078125", "2g y 0 0 0 0 0",        \
+                 "2g z 0 0 0 0 0") LOGS(1, 0)
+
+/* 5 microseconds and 7 counts are left. A log that passes them at a record adds nothing, though what
+   comes would bring the sum back, or the log is refused behind it; the logs beside it count. */
+static void logs_that_do_not_fit(void)
+{
+    static const char *const too_large[] = {
+        "01 00 08 03 00 08 00 00 00 00 00 00 08 03 FF FF 00 00 00 00 00",
+        "01 00 05 05 00 00 00 05 00 05 05 00 00 00 01 00 01 04", "01 00 05 05 FF FF FF FF 00 00"};
+
+    write_text("case.1", COUNTS(9, 9, 9, 9, 9, 18446744073709551610)
+               AT_2_G_ALONE("2g x 0 0 9223372036854775800 0 0", "2g y none", "2g z none") LOGS(9, 9));
+    begin_log("01 00 05 05 00 00 00 05 00 08 03 FF FF 00 00 00 00 00 00 08 03 00 08 00 00 00 00 00");
+    save_log("case.2");
+    for (size_t i = 0; i < sizeof too_large / sizeof *too_large; i++) {
+        begin_log(too_large[i]);
+        sheet_gives("--from case.1 -", 3, 1, NOTHING LOGS(0, 0));
+        sheet_gives("--from case.1 case.log case.2", 3, 1, FULL_LOG);
+        sheet_gives("--from case.1 case.2 case.log case.2", 3, 2, FULL_LOG);
+        sheet_gives("--from case.1 case.log nosuch", 1, 2, NOTHING LOGS(0, 0));
+    }
+    sheet_gives("--from case.1 case.2", 0, 0, FULL_LOG);
+    sheet_gives("--from nosuch case.2", 1, 1, "");
+    sheet_gives("--from case.2 case.2", 2, 1, "");
+}
+
+/* A text that is no sheet, to the byte. */
+static void no_sheets(void)
+{
+    static const char *const text[] = {
+        "", "accepted 0\n", NOTHING, "\n" NOTHING LOGS(1, 0), NOTHING LOGS(1, 0) "\n",
+        NOTHING LOGS(01, 0), NOTHING LOGS(1, -1), NOTHING LOGS(1, 18446744073709551616),
+        COUNTS(0, 0, 0, 0, 0, 0) NO_SAMPLE(2) NO_SAMPLE(4) NO_SAMPLE(16) NO_SAMPLE(8) LOGS(1, 0),
+        COUNTS(0, 0, 0, 0, 0, 0) "2g x 0 0 0 0 0.0\n2g y none\n2g z none\n" NO_SAMPLE(4)
+            NO_SAMPLE(8) NO_SAMPLE(16) LOGS(1, 0),
+        COUNTS(0, 0, 0, 0, 0, 0) "2g x 0 0 9223372036854775808 0 0\n2g y none\n2g z none\n"
+            NO_SAMPLE(4) NO_SAMPLE(8) NO_SAMPLE(16) LOGS(1, 0)};
+
+    for (size_t i = 0; i < sizeof text / sizeof *text; i++) {
+        write_text("case.3", text[i]);
+        write_log((const uint8_t *)"", 0);
+        sheet_gives("--join case.1 case.3", 2, 1, "");
+    }
+}
+
+static void remove_sheets(void)
+{
+    static const char *const name[] = {"case.a", "case.b", "case.c", "case.d",
+                                       "case.1", "case.2", "case.3"};
+
+    for (size_t i = 0; i < sizeof name / sizeof *name; i++)
+        remove(name[i]);
+}
+
+static void sheets(void)
+{
+    sheets_without_samples();
+    sheets_in_g();
+    sheets_of_lost_samples();
+    sheets_of_frames();
+    sheets_of_ranges();
+    sheets_of_stored_counts();
+    sheets_of_damaged_logs();
+    sheets_of_many();
+    joined_texts();
+    logs_that_do_not_fit();
+    no_sheets();
+    remove_sheets();
+}
+
 /* A line on standard error, nothing on standard output, status 2. */
 static void is_wrong_use(const char *command, const char *arguments)
 {
@@ -4072,11 +4828,15 @@ static void wrong_use(void)
         "1 2 all", "' 1' 5", "modes ''", "0 18446744073709551616"};
     static const char *const of_replay[] = {"x", "pin", "PINS", "pinss", "pins pins", "''",
                                             "pins ''", "'' pins", "0 1"};
+    static const char *const of_sheet[] = {"--join", "--joins case.log", "--", "--raw case.log",
+                                           "--from", "--from case.log"};
 
     for (size_t i = 0; i < sizeof of_answer / sizeof *of_answer; i++)
         is_wrong_use(answer_command, of_answer[i]);
     for (size_t i = 0; i < sizeof of_replay / sizeof *of_replay; i++)
         is_wrong_use(replay_command, of_replay[i]);
+    for (size_t i = 0; i < sizeof of_sheet / sizeof *of_sheet; i++)
+        is_wrong_use(sheet_command, of_sheet[i]);
 }
 
 /* ---- files that fail ---- */
@@ -4098,6 +4858,7 @@ static void all_failing_files(void)
 
     failing_files(replay_command, "");
     failing_files(replay_command, "pins");
+    failing_files(sheet_command, "");
     for (size_t i = 0; i < sizeof forms / sizeof *forms; i++) {
         failing_files(answer_command, forms[i]);
         check(system("test ! -s case.out") == 0, "%s: no last line where it can't be read",
@@ -4132,6 +4893,8 @@ int main(int count, char **argument)
         replay_command = argument[1];
     if (count > 2)
         answer_command = argument[2];
+    if (count > 3)
+        sheet_command = argument[3];
     p1_to_p4();
     p5_to_p7();
     p8_to_p10();
@@ -4153,7 +4916,14 @@ int main(int count, char **argument)
     replays();
     account_and_twin();
     which_was_lost();
+    totals_at_their_ends();
+    clock_at_its_end();
+    sums_at_their_ends();
+    samples_at_their_end();
+    totals_at_random();
+    every_count_in_g();
     answer_texts();
+    sheets();
     wrong_use();
     all_failing_files();
     remove("case.log");

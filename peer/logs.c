@@ -12,6 +12,10 @@
                         it may change; poll, which was put in; piece, which begins or goes on with
                         the read that the next record goes on with; or rest: from there on the log
                         is as it was
+   logs SEED RECORDS sheet
+                        another log, for sheets: of few samples that lie close together, so that a
+                        single one may be the smallest or the largest of its range and axis; about
+                        one seed in four gives a damaged log, one in 16 no record
    logs --big MEGABYTES one long log without damage, with a mix as on a bench, for timing
 
    Random draws never share an expression with each other: C leaves their order open there. */
@@ -2563,6 +2567,270 @@ static void edge_log(uint64_t seed, uint64_t records, enum form form, FILE *mark
     pins_scene(&l, fill);
 }
 
+/* ---- logs for sheets ---- */
+
+/* How the samples lie, and what the FIFO is set to. */
+struct site {
+    int centre[AXES], width[AXES]; /* stored counts */
+    int mode;                      /* the byte of 0x3E */
+    int range;                     /* the byte of 0x0F, */
+    bool stays;                    /* which all samples of the log have */
+};
+
+static void move_site(struct log *l, struct site *s)
+{
+    for (int axis = X; axis < AXES; axis++) {
+        s->centre[axis] = PICK(l, -1900, -700, -40, -1, 0, 1, 35, 600, 1900);
+        s->width[axis] = PICK(l, 0, 0, 1, 5, 40);
+    }
+}
+
+static void put_site_sample(struct log *l, const struct site *s)
+{
+    int sample[AXES];
+
+    for (int axis = X; axis < AXES; axis++) {
+        int beside = below(l, s->width[axis] + 1);
+
+        sample[axis] = s->centre[axis] + beside;
+    }
+    put_stored(l, sample);
+}
+
+static void put_site_samples(struct log *l, const struct site *s, int count)
+{
+    while (count-- > 0)
+        put_site_sample(l, s);
+}
+
+/* Just below or just above the others on each axis, or at an end of the 12 bits. */
+static void put_extreme(struct log *l, const struct site *s)
+{
+    int sample[AXES];
+
+    for (int axis = X; axis < AXES; axis++) {
+        int below_all = s->centre[axis] - 1, above_all = s->centre[axis] + s->width[axis] + 1;
+
+        sample[axis] = PICK(l, below_all, above_all, below_all, above_all, -2048, 2047);
+    }
+    put_stored(l, sample);
+}
+
+/* At the end of the range to which no sample may come, with what would be extremes beside it; now and
+   then one that an offset would bring in. */
+static void put_refused(struct log *l)
+{
+    int sample[AXES];
+    int chosen = below(l, AXES);
+
+    for (int axis = X; axis < AXES; axis++) {
+        int outside = PICK(l, -2049, 2048, -2049, 2048, 3000, -3000, 32767, -32768);
+        int end = PICK(l, -2048, 2047);
+
+        sample[axis] = axis == chosen ? outside : end;
+    }
+    if (offset(l, chosen) != 0 && one_in(l, 2))
+        sample[chosen] = offset(l, chosen) < 0 ? 2048 : -2049;
+    put_sample(l, sample);
+}
+
+static void set_site_mode(struct log *l, struct site *s)
+{
+    s->mode = any_fifo_mode(l);
+    put_write(l, 0x3E, s->mode);
+}
+
+/* Of so many frames the last is read in part, or none of it. */
+static void put_site_readout(struct log *l, const struct site *s, int frames)
+{
+    int size = s->mode & 3 ? 2 : 6;
+    int unread = one_in(l, 2) ? below(l, size) : 0;
+    int length = least(frames * size - unread, 192);
+
+    put_read(l, 0x3F, length);
+}
+
+/* The FIFO is as full as it gets. FIFO mode loses the newcomer, the others their oldest; either may be
+   the extreme, or the sample before it or behind it. */
+static void lose_scene(struct log *l, struct site *s)
+{
+    int aside = PICK(l, 0, 0, 0, 1);
+    int behind = below(l, 3);
+
+    set_site_mode(l, s);
+    if (s->mode >> 6 == 1) {
+        put_site_samples(l, s, depth(s->mode) - aside);
+        put_extreme(l, s);
+        put_site_samples(l, s, behind);
+    } else {
+        put_site_samples(l, s, aside);
+        put_extreme(l, s);
+        put_site_samples(l, s, depth(s->mode) - 1 + behind);
+    }
+    if (one_in(l, 2))
+        put_site_readout(l, s, 1 + behind);
+}
+
+/* Back to 2 g and BYPASS, and on in the range that all samples have. */
+static void reset_site(struct log *l, struct site *s)
+{
+    put_write(l, 0x14, 0xB6);
+    s->mode = 0x00;
+    if (s->stays && s->range != 0x03)
+        put_write(l, 0x0F, s->range);
+}
+
+/* Frames that are held when they are cleared, or a write that clears none. */
+static void clear_scene(struct log *l, struct site *s)
+{
+    int fill = PICK(l, 0, 1, 1, 2, 3, 7, 31, 32, 33);
+    int frames = below(l, 4);
+
+    if (one_in(l, 2))
+        set_site_mode(l, s);
+    put_site_samples(l, s, fill);
+    if (frames > 0)
+        put_site_readout(l, s, frames);
+    switch (below(l, 5)) {
+    case 0:
+        put_write(l, 0x3E, s->mode);
+        break;
+    case 1:
+        set_site_mode(l, s);
+        break;
+    case 2:
+        put_write(l, 0x3E, 0xC0 | s->mode); /* refused */
+        break;
+    case 3:
+        put_write(l, 0x14, 0xB5); /* ignored */
+        break;
+    default:
+        reset_site(l, s);
+        break;
+    }
+}
+
+/* Ranges, set and refused, with a single sample in some. */
+static void turn_range(struct log *l, struct site *s)
+{
+    int turns = 1 + below(l, 4);
+
+    while (turns-- > 0) {
+        int range = any_range(l);
+        int refused = PICK(l, 0x00, 0x04, 0x07, 0x0D, 0xF2, 0xFF);
+        int samples = PICK(l, 0, 1, 1, 1, 2, 5);
+
+        if (s->stays || one_in(l, 4))
+            put_write(l, 0x0F, refused);
+        else
+            put_write(l, 0x0F, range);
+        if (one_in(l, 2))
+            move_site(l, s);
+        put_site_samples(l, s, samples);
+        if (one_in(l, 4))
+            put_extreme(l, s);
+    }
+}
+
+static void time_scene(struct log *l, struct site *s)
+{
+    int clocks = 1 + below(l, 5);
+
+    while (clocks-- > 0) {
+        uint32_t any = any_clock(l);
+        int choice = below(l, 8);
+
+        put_clock(l, choice < 4 ? UINT32_MAX : choice < 6 ? any : choice < 7 ? 0 : 1);
+        if (one_in(l, 4))
+            put_site_sample(l, s);
+    }
+}
+
+/* Offsets that hold what is stored at an end, or lead there. */
+static void shift_scene(struct log *l, struct site *s)
+{
+    int samples = 1 + below(l, 4);
+
+    put_any_offset(l);
+    put_any_offset(l);
+    while (samples-- > 0) {
+        if (one_in(l, 2))
+            put_sample_near_end(l);
+        else
+            put_site_sample(l, s);
+        if (one_in(l, 4))
+            put_refused(l);
+    }
+    if (one_in(l, 2))
+        for (int axis = X; axis < AXES; axis++)
+            put_write(l, 0x38 + axis, 0x00);
+}
+
+static void refuse_scene(struct log *l, struct site *s)
+{
+    int turns = 1 + below(l, 3);
+
+    while (turns-- > 0) {
+        int length = PICK(l, 0, 193, 255);
+
+        put_refused(l);
+        if (one_in(l, 2))
+            put_read(l, 0x3F, length);
+        if (one_in(l, 2))
+            put_site_sample(l, s);
+    }
+}
+
+/* What a recorder does: cycles, samples, looks at the data and readouts. */
+static void record_scene(struct log *l, struct site *s)
+{
+    int turns = 2 + below(l, 8);
+
+    while (turns-- > 0) {
+        int frames = below(l, 3);
+
+        put_cycle_start(l);
+        put_site_sample(l, s);
+        if (one_in(l, 4))
+            put_read(l, 0x02, 6);
+        if (frames > 0)
+            put_site_readout(l, s, frames);
+    }
+}
+
+static void sheet_scene(struct log *l, struct site *s)
+{
+    static void (*const scene[])(struct log *, struct site *) = {
+        lose_scene, lose_scene,  clear_scene,  clear_scene, turn_range,
+        turn_range, shift_scene, refuse_scene, time_scene,  record_scene};
+
+    scene[below(l, sizeof scene / sizeof *scene)](l, s);
+}
+
+static void sheet_log(uint64_t seed, uint64_t records)
+{
+    struct log l = {.state = -seed, .undamaged = UINT64_MAX, .step = 8};
+    struct site s = {.mode = 0x00};
+    uint64_t part = (uint64_t)PICK(&l, 1, 1, 4, 16);
+
+    records = records / part > 0 ? 1 + draw(&l) % (records / part) : 0;
+    if (one_in(&l, 16))
+        records = 0;
+    if (one_in(&l, 4)) {
+        l.damage = (enum damage)(1 + below(&l, DAMAGES - 1));
+        l.undamaged = records > 0 ? draw(&l) % records : 0;
+    }
+    put_head(&l);
+    l.left = records;
+    s.range = any_range(&l) & 0x0F;
+    s.stays = one_in(&l, 3);
+    if (s.range != 0x03 || one_in(&l, 2))
+        put_write(&l, 0x0F, s.range);
+    move_site(&l, &s);
+    while (l.left > 0 && !l.ended)
+        sheet_scene(&l, &s);
+}
+
 /* ---- the long log ---- */
 
 static void put_bench_sample(struct log *l)
@@ -2633,7 +2901,8 @@ static bool parse_number(const char *text, uint64_t *number)
 
 static int usage(void)
 {
-    fputs("usage: logs SEED RECORDS [polls MARKS | cuts MARKS] | logs --big MEGABYTES\n", stderr);
+    fputs("usage: logs SEED RECORDS [polls MARKS | cuts MARKS | sheet] | logs --big MEGABYTES\n",
+          stderr);
     return 2;
 }
 
@@ -2642,6 +2911,7 @@ int main(int count, char **argument)
     static char block[1 << 16];
     uint64_t seed = 0, size = 0;
     bool big = count == 3 && strcmp(argument[1], "--big") == 0;
+    bool sheet = count == 4 && strcmp(argument[3], "sheet") == 0;
     enum form form = PLAIN;
     FILE *marks = NULL;
 
@@ -2649,7 +2919,7 @@ int main(int count, char **argument)
         form = strcmp(argument[3], "polls") == 0  ? POLLED
                : strcmp(argument[3], "cuts") == 0 ? CUT_UP
                                                   : PLAIN;
-    if (!(count == 3 || (count == 5 && form != PLAIN)) ||
+    if (!(count == 3 || sheet || (count == 5 && form != PLAIN)) ||
         !(big || parse_number(argument[1], &seed)) || !parse_number(argument[2], &size))
         return usage();
     if (form != PLAIN && (marks = fopen(argument[4], "w")) == NULL) {
@@ -2659,6 +2929,8 @@ int main(int count, char **argument)
     setvbuf(stdout, block, _IOFBF, sizeof block);
     if (big)
         big_log(size);
+    else if (sheet)
+        sheet_log(seed, size);
     else
         edge_log(seed, size, form, marks);
     if (marks != NULL && fclose(marks) != 0)

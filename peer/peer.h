@@ -3,9 +3,9 @@
    times and both interrupt pins. Plain C11, no heap, updated in place.
 
    The caller owns a struct peer and starts it with peer_power_up(); the fields are not for use
-   outside peer.c. Each event gives back one of the numbers below; a number other than PEER_DONE
-   means that neither the twin nor the lent buffer has changed. All names begin with peer, so that
-   a program can hold this twin and the one of include/twin.h. */
+   outside this header and peer.c. Each event gives back one of the numbers below; a number other
+   than PEER_DONE means that neither the twin nor the lent buffer has changed. All names begin with
+   peer, so that a program can hold this twin and the one of include/twin.h. */
 #ifndef PEER_H
 #define PEER_H
 
@@ -35,7 +35,8 @@ enum peer_answer {
     PEER_LOG_CUT = 9,           /* log cut, or empty */
     PEER_NO_DETECTOR = 11,      /* a detector bit in 0x16 */
     PEER_NO_POWER_MODE = 12,    /* a power mode in 0x11 */
-    PEER_NO_TEST_OR_TRIM = 13   /* self-test, memory, calibration or offset in 0x32, 0x33, 0x36 */
+    PEER_NO_TEST_OR_TRIM = 13,  /* self-test, memory, calibration or offset in 0x32, 0x33, 0x36 */
+    PEER_TOO_LARGE = 15         /* a total of a sheet would not fit; no event gives it */
 };
 
 enum peer_level { PEER_LOW, PEER_HIGH, PEER_RELEASED };
@@ -91,5 +92,11 @@ enum peer_answer peer_sample(struct peer *t, int x, int y, int z, uint8_t temper
 enum peer_answer peer_cycle_start(struct peer *t);
 enum peer_answer peer_clock(struct peer *t, uint32_t microseconds);
 struct peer_pins peer_pins(const struct peer *t);
+
+/* What is stored of an axis of the sample that came last: the given count with its offset. */
+static inline int peer_stored(const struct peer *t, int axis)
+{
+    return t->previous[axis];
+}
 
 #endif

@@ -58,6 +58,32 @@ static inline void put_number(struct output *out, uint64_t number)
     put_chars(out, digits + first, sizeof digits - first);
 }
 
+static inline void put_signed(struct output *out, int64_t number)
+{
+    if (number < 0)
+        put_char(out, '-');
+    put_number(out, number < 0 ? -(uint64_t)number : (uint64_t)number);
+}
+
+/* A count in g, which is so many 2048ths of the range: as a decimal that has an end, its digits worked
+   out one by one until nothing is left, so that the last is no 0. */
+static inline void put_in_g(struct output *out, int count, unsigned g)
+{
+    unsigned parts = (count < 0 ? -(unsigned)count : (unsigned)count) * g;
+
+    if (count < 0)
+        put_char(out, '-');
+    put_number(out, parts / 2048);
+    parts %= 2048;
+    if (parts > 0)
+        put_char(out, '.');
+    while (parts > 0) {
+        parts *= 10;
+        put_number(out, parts / 2048);
+        parts %= 2048;
+    }
+}
+
 static inline void put_hex(struct output *out, const uint8_t *bytes, size_t length)
 {
     static const char digit[] = "0123456789ABCDEF";
@@ -70,12 +96,18 @@ static inline void put_hex(struct output *out, const uint8_t *bytes, size_t leng
     out->end += 2 * length;
 }
 
-/* Writes out what is left and gives the program's status: 0, or 1 with a message where the input
-   could not be read or the output not be written. */
-static inline int end_text(struct output *out, const char *program)
+/* Writes out what is left; gives whether all of the text could be written. */
+static inline bool text_is_out(struct output *out)
 {
     flush_block(out);
-    if (fflush(stdout) == 0 && !ferror(stdout) && !ferror(stdin))
+    return fflush(stdout) == 0 && !ferror(stdout);
+}
+
+/* The same for a program that reads standard input. Gives its status: 0, or 1 with a message where the
+   input could not be read or the output not be written. */
+static inline int end_text(struct output *out, const char *program)
+{
+    if (text_is_out(out) && !ferror(stdin))
         return 0;
     perror(program);
     return 1;
