@@ -2,3 +2,5 @@ pub mod Order
 pub mod Tallies
 pub mod Over
 pub mod Few
+pub mod Log
+pub mod Promise
