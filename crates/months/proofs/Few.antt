@@ -26,7 +26,9 @@ use Rattle.stretches.proofs.Histories.{accepted-more}
 use Rattle.sheets.specs.Sheets.{countFits, sumFits, axesFit, sheetFits}
 use Rattle.months.specs.Histories.{countHere, countsAt, clockIn, sumOf, tallyOf, axesOf, sheetOf, Earlier, Passes}
 use Rattle.months.specs.Logs.{inAll, joined, countsOver, sheetOverAll, Ticks, AllTick}
+use Rattle.months.specs.Totals.{AllIn64}
 use Rattle.months.proofs.Tallies.{sum-is}
+use Rattle.months.proofs.Totals.{all-in}
 use Rattle.months.proofs.Over.{single, whole}
 
 -- ---- how large the counts of one log can be
@@ -118,7 +120,7 @@ all-true a b p q = rw (p, q)
 axes-fit : (hs : List (List Event)) → inAll length hs < 2 ^ 32 → (g : ℕ) → axesFit (axesOf (countsOver hs) g) ≡ true
 axes-fit hs few g = rw (sum-fits g (λ (v : Values). v .x) x-small hs few, sum-fits g (λ (v : Values). v .y) y-small hs few, sum-fits g (λ (v : Values). v .z) z-small hs few)
 
-pub few-fit : (hs : List (List Event)) → AllTick hs → inAll length hs < 2 ^ 32 → sheetFits (sheetOverAll hs) ≡ true
+few-fit : (hs : List (List Event)) → AllTick hs → inAll length hs < 2 ^ 32 → sheetFits (sheetOverAll hs) ≡ true
 unfolding countFits
 few-fit hs ticks few =
     let s = sheetOverAll hs in
@@ -133,11 +135,10 @@ few-fit hs ticks few =
     let f6 : s .clock < 2 ^ 64 = omega (arith, c, few) in
     rw (lt-ltb (s .accepted) (2 ^ 64) f1, lt-ltb (s .taken) (2 ^ 64) f2, lt-ltb (s .held) (2 ^ 64) f3, lt-ltb (s .lost) (2 ^ 64) f4, lt-ltb (s .cleared) (2 ^ 64) f5, lt-ltb (s .clock) (2 ^ 64) f6, axes-fit hs few 2, axes-fit hs few 4, axes-fit hs few 8, axes-fit hs few 16)
 
--- ---- at each event of a log
-no : {b : Bool} → b ≡ true → b ≡ false → ⊥
-no {b = true} p q = let z : _≡_ {A = ℕ} 0 1 = cc in absurd (omega arith)
-no {b = false} p q = let z : _≡_ {A = ℕ} 0 1 = cc in absurd (omega arith)
+pub few : (hs : List (List Event)) → AllTick hs → inAll length hs < 2 ^ 32 → AllIn64 (sheetOverAll hs)
+few hs ticks h = all-in (sheetOverAll hs) (few-fit hs ticks h)
 
+-- ---- at each event of a log
 ticks-earlier : (later earlier : List Event) → Ticks (later ++ earlier) → Ticks earlier
 ticks-earlier [] earlier t = t
 ticks-earlier (e ∷ later) earlier t = ticks-earlier later earlier (t .1)
@@ -156,4 +157,4 @@ few-in-a-log es ticks few p =
     let n : length es ≡ length (later ++ earlier) = ap length is in
     let m : length earlier + 0 < 2 ^ 32 = omega (arith, l, n, few) in
     let fits : sheetFits (sheetOf earlier) ≡ true = ap sheetFits (sym (single earlier)) ∙ few-fit (earlier ∷ []) (t, tt) m in
-    no fits (p .1 .1)
+    p .1 .1 (all-in (sheetOf earlier) fits)

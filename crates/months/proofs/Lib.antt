@@ -1,3 +1,4 @@
+pub mod Totals
 pub mod Order
 pub mod Tallies
 pub mod Over

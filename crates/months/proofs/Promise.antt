@@ -45,7 +45,8 @@ use Rattle.months.specs.Logs.{eventsIn, SheetOfLog, SheetsOver}
 use Rattle.months.proofs.Log.{steppedSums, sumsFit, fitsAlong, along-fits, exactly}
 use Rattle.months.proofs.Over as over
 use Rattle.months.proofs.Over.{says-with}
-use Rattle.months.proofs.Few.{few-fit, few-in-a-log}
+use Rattle.months.proofs.Few as few
+use Rattle.months.proofs.Totals.{clash, all-in, all-fit}
 
 -- ---- the state behind a history, where the version byte is past
 abbrev stateOf : List Recorded → Sheeting
@@ -106,14 +107,6 @@ module _ (rs : List Recorded) where
   unfitted h = rw (exactly es .wrong-ones h)
 
 -- ---- 15
-clash : {A : Type 0} {b : Bool} → b ≡ true → b ≡ false → A
-clash {b = true} p q = let z : _≡_ {A = ℕ} 0 1 = cc in absurd (omega arith)
-clash {b = false} p q = let z : _≡_ {A = ℕ} 0 1 = cc in absurd (omega arith)
-
-and-false : (b : Bool) → both b false ≡ false
-and-false true = refl
-and-false false = refl
-
 -- the sheet of a history fits exactly where its sums do, its counts being few
 record CountsFit (es : List Event) : Type 0 where
   accepted : countFits (totals accelerometer es .accepted) ≡ true
@@ -160,7 +153,9 @@ unfit-next : (es : List Event) (e : Event) → totals accelerometer (e ∷ es) .
 unfit-next es e few before h = go (fitsAlong es) refl
   where
     go : (t : Bool) → fitsAlong es ≡ t → Passes (e ∷ es)
-    go true l = (e ∷ es, (([], refl), sheet-fits-as (e ∷ es) few ∙ (ap (λ (b : Bool). both b (sumsFit (e ∷ es))) (sym l) ∙ h)))
+    go true l =
+        let unfit : sheetFits (sheetOf (e ∷ es)) ≡ false = sheet-fits-as (e ∷ es) few ∙ (ap (λ (b : Bool). both b (sumsFit (e ∷ es))) (sym l) ∙ h) in
+        (e ∷ es, (([], refl), λ all. clash (all-fit (sheetOf (e ∷ es)) all) unfit))
     go false l =
         let p = before l in
         (p .0, ((e ∷ p .1 .0 .0, ap (λ (t : List Event). e ∷ t) (p .1 .0 .1)), p .1 .1))
@@ -182,7 +177,7 @@ none-unfit es few h p =
     let n : totals accelerometer es .accepted ≡ totals accelerometer (later ++ earlier) .accepted = ap (λ (t : List Event). totals accelerometer t .accepted) is in
     let m : totals accelerometer earlier .accepted < 2 ^ 64 = omega (arith, g, n, few) in
     let a : fitsAlong earlier ≡ true = along-earlier later earlier (subst (λ (t : List Event). fitsAlong t ≡ true) is h) in
-    clash (along-fits earlier a) (sym (sheet-fits-as earlier m) ∙ p .1 .1)
+    p .1 .1 (all-in (sheetOf earlier) (sheet-fits-as earlier m ∙ along-fits earlier a))
 
 -- ---- a log
 length-behind : (rs : List Recorded) (es : List Entry) → length (recordsBehind rs es) ≡ length rs + length es
@@ -203,19 +198,19 @@ module _ (log : List ℕ) (room : length log < 2 ^ 64) where
   abbrev told-by : List Event
   told-by = eventsIn log
 
-  few : totals accelerometer told-by .accepted < 2 ^ 64
-  few = let b = bounded (historyOf log) .accepted in let h = history-few log room in omega (arith, b, h)
+  accepted-few : totals accelerometer told-by .accepted < 2 ^ 64
+  accepted-few = let b = bounded (historyOf log) .accepted in let h = history-few log room in omega (arith, b, h)
 
   by-fit : (t : Bool) → fitsAlong told-by ≡ t → SheetOfLog log
   by-fit true h = record {
     is = λ s e. is-injective (sym e ∙ log-is log room ∙ fitted (historyOf log) h);
     says = says-with _ _ _ _ _ _ _;
-    refused = (λ e. not-is (sym e ∙ log-is log room ∙ fitted (historyOf log) h), λ p. absurd (none-unfit told-by few h p));
+    refused = (λ e. not-is (sym e ∙ log-is log room ∙ fitted (historyOf log) h), λ p. absurd (none-unfit told-by accepted-few h p));
   }
   by-fit false h = record {
     is = λ s e. not-is (sym (log-is log room ∙ unfitted (historyOf log) h) ∙ e);
     says = says-with _ _ _ _ _ _ _;
-    refused = (λ e. some-unfit told-by few h, λ p. log-is log room ∙ unfitted (historyOf log) h);
+    refused = (λ e. some-unfit told-by accepted-few h, λ p. log-is log room ∙ unfitted (historyOf log) h);
   }
 
   pub sheet-of-log : SheetOfLog log
@@ -232,6 +227,6 @@ sheets-over = record {
   neutral-right = over.neutral-right;
   says = λ hs. says-with _ _ _ _ _ _ _;
   whole = over.whole;
-  few = few-fit;
-  few-in-a-log = few-in-a-log;
+  few = few.few;
+  few-in-a-log = few.few-in-a-log;
 }

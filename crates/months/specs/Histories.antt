@@ -14,12 +14,13 @@ use Rattle.paper.specs.Samples.{Values, isSample, valuesAt, microsecondsAt}
 use Rattle.paper.specs.Stored.{byteBy}
 use Rattle.history.specs.History.{accelerometer}
 use Rattle.demand3.specs.Whole.{heldNow, totals}
-use Rattle.sheets.specs.Sheets.{noTally, tallyOver, sheetFits}
+use Rattle.sheets.specs.Sheets.{noTally, tallyOver}
 use Rattle.sheets.specs.declared.ByAxis.{ByAxis}
 use Rattle.sheets.specs.declared.Extremes.the-variants.{NoSample, Of}
 use Rattle.sheets.specs.declared.Sheet.{Sheet}
 use Rattle.sheets.specs.declared.Tally.{Tally}
 use Rattle.tally.specs.Tally.{oneTally}
+use Rattle.months.specs.Totals.{AllIn64}
 
 -- ---- the stored counts of an axis in a range of so many g: "of every accepted sample, lost ones too, .. by the range in force at the sample"
 abbrev pub countHere : ℕ → (Values → ℤ) → List Event → Event → List ℤ
@@ -111,4 +112,4 @@ abbrev pub Earlier : List Event → List Event → Type 0
 Earlier earlier es = (later : List Event) × (es ≡ later ++ earlier)
 
 abbrev pub Passes : List Event → Type 0
-Passes es = (earlier : List Event) × (Earlier earlier es × (sheetFits (sheetOf earlier) ≡ false))
+Passes es = (earlier : List Event) × (Earlier earlier es × (AllIn64 (sheetOf earlier) → ⊥))

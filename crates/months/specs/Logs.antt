@@ -6,16 +6,16 @@ use mathlib.Core.Logic.{_↔_}
 use mathlib.Core.Path.{_≡_}
 use lib.IntN.{ℤ}
 use lib.ListN.{length}
-use Rattle.benchlog.specs.Whole.{readLog, AllFieldsFit}
 use Rattle.events.specs.Event.{Event}
 use Rattle.paper.specs.Samples.{Values, microsecondsAt}
 use Rattle.history.specs.History.{accelerometer}
 use Rattle.demand3.specs.Whole.{sum, heldNow, totals}
 use Rattle.recorded.specs.Recorded.{eventsOf, historyOf}
-use Rattle.sheets.specs.Sheets.{emptySheet, sheetOver, sheetFits, sheetJoined}
+use Rattle.sheets.specs.Sheets.{emptySheet, sheetOver, sheetJoined}
 use Rattle.sheets.specs.declared.Sheet.{Sheet}
 use Rattle.sheeting.specs.Sheeting.{logSheet}
 use Rattle.sheeting.specs.declared.LogSheet.the-variants.{Is, TooLarge}
+use Rattle.months.specs.Totals.{AllIn64}
 use Rattle.months.specs.Histories.{countsAt, clockIn, sheetWith, sheetOf, Says, SaysOf, Passes}
 
 -- "A log counts up to where the replay stops": 7 and 9 at the version byte leave no event, and a sheet of zeros
@@ -96,5 +96,5 @@ pub record SheetsOver : Type 0 where
   -- "accepted = taken + held at end + lost + held when cleared", over any logs
   pub whole : (hs : List (List Event)) → let s = sheetOverAll hs in s .accepted ≡ s .taken + s .held + s .lost + s .cleared
   -- below 2 ^ 32 events in all no total fails to fit, neither over the logs nor at an event of one
-  pub few : (hs : List (List Event)) → AllTick hs → inAll length hs < 2 ^ 32 → sheetFits (sheetOverAll hs) ≡ true
+  pub few : (hs : List (List Event)) → AllTick hs → inAll length hs < 2 ^ 32 → AllIn64 (sheetOverAll hs)
   pub few-in-a-log : (es : List Event) → Ticks es → length es < 2 ^ 32 → Passes es → ⊥
