@@ -5,3 +5,4 @@ pub mod Over
 pub mod Few
 pub mod Log
 pub mod Promise
+pub mod Months

@@ -111,7 +111,7 @@ single es = λ i. record {
   ranges = record { g2 = axes-single es 2 i; g4 = axes-single es 4 i; g8 = axes-single es 8 i; g16 = axes-single es 16 i };
 }
 
-over-none : emptySheet ≡ sheetOverAll []
+pub over-none : emptySheet ≡ sheetOverAll []
 unfolding tallyOf
 over-none = refl
 

@@ -21,11 +21,11 @@ clash {b = true} p q = let z : _≡_ {A = ℕ} 0 1 = cc in absurd (omega arith)
 clash {b = false} p q = let z : _≡_ {A = ℕ} 0 1 = cc in absurd (omega arith)
 
 -- ---- one total
-count-in : (n : ℕ) → countFits n ≡ true → CountIn64 n
+pub count-in : (n : ℕ) → countFits n ≡ true → CountIn64 n
 unfolding countFits
 count-in n h = ltb-true n (2 ^ 64) h
 
-count-fits : (n : ℕ) → CountIn64 n → countFits n ≡ true
+pub count-fits : (n : ℕ) → CountIn64 n → countFits n ≡ true
 unfolding countFits
 count-fits n h = lt-ltb n (2 ^ 64) h
 

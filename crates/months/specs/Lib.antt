@@ -1,3 +1,4 @@
 pub mod Totals
 pub mod Histories
 pub mod Logs
+pub mod Months
