@@ -6,9 +6,9 @@ use mathlib.Core.List.{List}
 use mathlib.Core.Path.{_≡_, refl, sym, ap, _∙_}
 use Rattle.follow.specs.Teller.{Lawful}
 use Rattle.follow.specs.Follow.{Running, runOf}
-use Rattle.follow.specs.Whole.{printedFrom}
+use Rattle.follow.specs.Whole.{printedFrom, ledTo}
 use Rattle.follow.specs.declared.Next.{Next}
-use Rattle.follow.proofs.Maps.{Respects, imageOf, run-image, printed-image}
+use Rattle.follow.proofs.Maps.{Respects, imageOf, run-image, printed-image, led-image}
 use Rattle.playback.specs.Replay.{replays}
 use Rattle.answers.specs.Answer.{answers}
 use Rattle.sheeting.specs.Sheeting.{sheets}
@@ -60,6 +60,9 @@ module _ (p : Seat) (at : Seated p) where
   printed-at : (j : Job) (log : List ℕ) → printedFrom (working p) j log ≡ printedFrom (p .teller) (p .part j) log
   printed-at j log = ap (λ (x : Job). printedFrom (working p) x log) (sym (at .same j)) ∙ printed-image (p .teller) (working p) (p .put j) (alike j) (p .part j) log
 
+  led-at : (j : Job) (log : List ℕ) → ledTo (working p) j log ≡ p .put j (ledTo (p .teller) (p .part j) log)
+  led-at j log = ap (λ (x : Job). ledTo (working p) x log) (sym (at .same j)) ∙ led-image (p .teller) (working p) (p .put j) (alike j) (p .part j) log
+
 -- ---- at a task
 module _ (k : Task) where
   pub works : Lawful (worker k)
@@ -72,3 +75,6 @@ module _ (k : Task) where
 
   pub printed-by : (j : Job) (log : List ℕ) → printedFrom (worker k) j log ≡ printedBy k j log
   printed-by = printed-at (seat k) (seated k)
+
+  pub led-by : (j : Job) (log : List ℕ) → ledTo (worker k) j log ≡ seat k .put j (ledTo (seat k .teller) (seat k .part j) log)
+  led-by = led-at (seat k) (seated k)

@@ -6,3 +6,4 @@ pub mod Few
 pub mod Log
 pub mod Promise
 pub mod Months
+pub mod Edges

@@ -2,3 +2,4 @@ pub mod Totals
 pub mod Histories
 pub mod Logs
 pub mod Months
+pub mod Edges

@@ -1,4 +1,4 @@
--- What the status of a program means, by the contracts of its pump, and of the two programs.
+-- What the status of a program means, by the contracts of its pump, and of the programs.
 -- Assumes nothing.
 use Prim.Native.Nat.{ℕ}
 use mathlib.Core.Bool.{Bool, true, false}
@@ -16,13 +16,18 @@ use Rattle.benchlog.specs.Whole.{lookRecord, readLog}
 use Rattle.benchlog.specs.declared.Begins.{Begins}
 use Rattle.benchlog.specs.declared.Begins.the-variants as begins
 use Rattle.benchlog.proofs.Walks.{walked, records-within, none-cases}
-use Rattle.follow.specs.Whole.{stopFrom, ledTo}
+use Rattle.benchlog.specs.declared.Entry.{Entry}
+use Rattle.follow.specs.Whole.{saidOf, saidFrom, textOf, printedFrom, stopFrom, ledTo}
 use Rattle.follow.proofs.Whole.{log-number}
 use Rattle.text.specs.Text.{decimal, lastDigits}
 use Rattle.playback.specs.Replay as replay
 use Rattle.answers.specs.Answer as answer
 use Rattle.answers.specs.declared.Asked.{Asked}
-use Rattle.jobs.specs.Job.{worker, toReplay, toAnswer}
+use Rattle.sheeting.specs.Sheeting as sheet
+use Rattle.sheeting.specs.Sheeting.{sheeter}
+use Rattle.sheeting.specs.declared.Sheeting.{Sheeting}
+use Rattle.jobs.specs.Job.{worker, printedBy, toReplay, toAnswer, toSheet, sheetIn}
+use Rattle.jobs.proofs.Jobs.{led-by}
 use Rattle.jobs.specs.declared.Job.{Job}
 use Rattle.jobs.specs.declared.Task.{Task}
 use Rattle.jobs.specs.declared.Task.the-variants as task
@@ -34,7 +39,7 @@ use Rattle.stream.proofs.Blocks.{stopped-by}
 use Rattle.outcomes.specs.Demand1.{DueOfLog}
 use Rattle.outcomes.proofs.Demand1.{demand1}
 use Rattle.ending.specs.Ending.{digitOf}
-use Rattle.programs.specs.Programs.{Followed, Failed, StatusMeans, ReadMeans, MisuseMeans}
+use Rattle.programs.specs.Programs.{Followed, Failed, StatusMeans, SheetMeans, ReadMeans, MisuseMeans}
 
 -- ---- by how a pump ended
 stopped-status : (refusal : ℕ) (b : Bool) → eqb refusal 0 ≡ b → ((refusal ≡ 0) × (statusOf (Stopped refusal) ≡ 0)) ⊎ ((refusal ≡ 0 → ⊥) × (statusOf (Stopped refusal) ≡ 3))
@@ -157,7 +162,7 @@ module _ (printed : List ℕ → List ℕ) (k : Task) (job : Job) (off : worker 
     digit = digit-is;
   }
 
--- ---- of the two programs
+-- ---- of the programs
 pub replay-means : (pins : Bool) → StatusMeans (replay.printed pins) task.Replay (toReplay pins)
 unfolding replay.start
 replay-means pins = means (replay.printed pins) task.Replay (toReplay pins) refl
@@ -165,6 +170,32 @@ replay-means pins = means (replay.printed pins) task.Replay (toReplay pins) refl
 pub answer-means : (asked : Asked) → StatusMeans (answer.printed asked) task.Answer (toAnswer asked)
 unfolding answer.start
 answer-means asked = means (answer.printed asked) task.Answer (toAnswer asked) refl
+
+pub sheet-status : StatusMeans (printedBy task.Sheet toSheet) task.Sheet toSheet
+unfolding sheet.start
+sheet-status = means (printedBy task.Sheet toSheet) task.Sheet toSheet refl
+
+silent-items : (items : List Entry) (s : Sheeting) (stop : ℕ) → textOf sheeter s items stop ≡ []
+unfolding saidOf
+silent-items [] s stop = refl
+silent-items (e ∷ items) s stop = silent-items items (sheeter .next s e) stop
+
+silent-log : (s : Sheeting) (log : List ℕ) → printedFrom sheeter s log ≡ []
+unfolding saidFrom
+silent-log s log =
+    let w = walk lookRecord log in
+    let l = walkLog readVersion lookRecord log in
+    rw (silent-items (w .items) s (w .stop), silent-items (l .items) (pick (l .begun) (sheeter .begin s) s) (l .stop)) (same (s .begun))
+  where
+    same : (t : Bool) → pick {A = List ℕ} t [] [] ≡ []
+    same true = refl
+    same false = refl
+
+pub sheet-means : SheetMeans
+sheet-means = record {
+  sheet = λ ended log f. ap sheetIn (sheet-status .led ended log f ∙ led-by task.Sheet toSheet log);
+  silent = λ log. silent-log (toSheet .sheeting) log;
+}
 
 -- ---- of a read, and of a program that was not used as it is meant to be
 pub read-means : ReadMeans

@@ -1,4 +1,5 @@
--- What the status of a program means, and what it writes: of the replay, and of the answer, by what their pumps promise.
+-- What the status of a program means, and what it writes: of the replay, and of the answer, by what their pumps promise; and what the sheet's
+-- pump hands back of a log.
 use Prim.Native.Nat.{ℕ, _≤_}
 use mathlib.Core.Bool.{true, false}
 use mathlib.Core.List.{List, [], _∷_, _++_}
@@ -8,9 +9,11 @@ use lib.IntN.{pos, negsuc}
 use Rattle.follow.specs.Whole.{joined, ledTo}
 use Rattle.text.specs.Text.{decimal}
 use Rattle.outcomes.specs.Demand1.{DueOfLog}
-use Rattle.jobs.specs.Job.{worker}
+use Rattle.sheeting.specs.Sheeting.{logSheet}
+use Rattle.jobs.specs.Job.{worker, printedBy, toSheet, sheetIn}
 use Rattle.jobs.specs.declared.Job.{Job}
 use Rattle.jobs.specs.declared.Task.{Task}
+use Rattle.jobs.specs.declared.Task.the-variants as task
 use Rattle.window.specs.Given.{gotOf}
 use Rattle.stream.specs.Pump.{MayFollow, allBlocks, StoppedLog, PumpedAs, statusOf}
 use Rattle.stream.specs.declared.Ended.{Ended}
@@ -48,6 +51,13 @@ pub record StatusMeans (printed : List ℕ → List ℕ) (k : Task) (job : Job) 
   pub failed : (how : How) → (statusOf how ≡ 1) ↔ Failed how
   -- and what goes to descriptor 3 is its digit
   pub digit : (how : How) → digitOf (statusOf how) ∷ [] ≡ decimal (statusOf how)
+
+-- ---- Q-8: of a log that the sheet's pump followed
+pub record SheetMeans : Type 0 where
+  -- the job that it hands back has the log's sheet
+  pub sheet : (ended : Ended) (log : List ℕ) → Followed (printedBy task.Sheet toSheet) task.Sheet toSheet ended log → sheetIn (ended .job) ≡ logSheet log
+  -- and nothing was printed
+  pub silent : (log : List ℕ) → printedBy task.Sheet toSheet log ≡ []
 
 -- ---- what is made of the answer of a read into so much room: -1, or how many bytes it moved
 pub record ReadMeans : Type 0 where

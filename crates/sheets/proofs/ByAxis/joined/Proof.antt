@@ -17,7 +17,7 @@ joined-spec =
     (λ c.
     let p = c .before .before .before .before .before .before .before .before .before .before .before .args in
     let t : axesFit (axesOver (p .self) (p .more)) ≡ true = rw (c .before .before .before .before .all-three .ensures, c .before .before .before .before .before .joined3 .ensures, c .before .before .before .before .before .before .joined2 .ensures, c .before .before .before .before .before .before .before .joined .ensures) at (c .before .before .before .if1 .taken) in
-    simp (c .before .before .before .before .all-three .ensures, c .before .before .before .before .before .joined3 .ensures, c .before .before .before .before .before .before .joined2 .ensures, c .before .before .before .before .before .before .before .joined .ensures, axes-fit (p .self) (p .more) t))
+    simp (c .before .before .before .before .before .joined3 .ensures, c .before .before .before .before .before .before .joined2 .ensures, c .before .before .before .before .before .before .before .joined .ensures, axes-fit (p .self) (p .more) t))
     (λ c.
     let p = c .before .before .before .before .before .before .before .before .args in
     let t : axesFit (axesOver (p .self) (p .more)) ≡ false = rw (c .before .all-three .ensures, c .before .before .joined3 .ensures, c .before .before .before .joined2 .ensures, c .before .before .before .before .joined .ensures) at (c .if1 .left) in

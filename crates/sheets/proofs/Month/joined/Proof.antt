@@ -17,7 +17,7 @@ joined-spec =
     (λ c.
     let p = c .before .before .before .before .before .before .before .args in
     let t : monthFits (monthOver (p .self) (p .more)) ≡ true = rw (c .before .before .all-three .ensures, c .before .before .before .join-counts2 .ensures, c .before .before .before .before .join-counts .ensures, c .before .before .before .before .before .joined .ensures) at (c .before .if1 .taken) in
-    simp (c .before .before .all-three .ensures, c .before .before .before .join-counts2 .ensures, c .before .before .before .before .join-counts .ensures, c .before .before .before .before .before .joined .ensures, month-fits (p .self) (p .more) t))
+    simp (c .before .before .before .join-counts2 .ensures, c .before .before .before .before .join-counts .ensures, c .before .before .before .before .before .joined .ensures, month-fits (p .self) (p .more) t))
     (λ c.
     let p = c .before .before .before .before .before .before .args in
     let t : monthFits (monthOver (p .self) (p .more)) ≡ false = rw (c .before .all-three .ensures, c .before .before .join-counts2 .ensures, c .before .before .before .join-counts .ensures, c .before .before .before .before .joined .ensures) at (c .if1 .left) in

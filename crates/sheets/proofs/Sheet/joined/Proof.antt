@@ -24,7 +24,7 @@ joined-spec =
     (λ c.
     let p = c .before .before .before .before .before .before .before .before .before .before .before .before .before .before .args in
     let t : sheetFits (sheetOver (p .self) (p .more)) ≡ true = rw (c .before .before .both2 .ensures, c .before .before .before .both .ensures, c .before .before .before .before .all-three2 .ensures, c .before .before .before .before .before .all-three .ensures, c .before .before .before .before .before .before .joined .ensures, c .before .before .before .before .before .before .before .before .join-counts6 .ensures, c .before .before .before .before .before .before .before .before .before .join-counts5 .ensures, c .before .before .before .before .before .before .before .before .before .before .join-counts4 .ensures, c .before .before .before .before .before .before .before .before .before .before .before .join-counts3 .ensures, c .before .before .before .before .before .before .before .before .before .before .before .before .join-counts2 .ensures, c .before .before .before .before .before .before .before .before .before .before .before .before .before .join-counts .ensures) at (c .before .if1 .taken) in
-    simp (c .before .before .both2 .ensures, c .before .before .before .both .ensures, c .before .before .before .before .all-three2 .ensures, c .before .before .before .before .before .all-three .ensures, c .before .before .before .before .before .before .joined .ensures, c .before .before .before .before .before .before .before .before .join-counts6 .ensures, c .before .before .before .before .before .before .before .before .before .join-counts5 .ensures, c .before .before .before .before .before .before .before .before .before .before .join-counts4 .ensures, c .before .before .before .before .before .before .before .before .before .before .before .join-counts3 .ensures, c .before .before .before .before .before .before .before .before .before .before .before .before .join-counts2 .ensures, c .before .before .before .before .before .before .before .before .before .before .before .before .before .join-counts .ensures, sheet-fits (p .self) (p .more) t))
+    simp (c .before .before .before .before .before .before .joined .ensures, c .before .before .before .before .before .before .before .before .join-counts6 .ensures, c .before .before .before .before .before .before .before .before .before .join-counts5 .ensures, c .before .before .before .before .before .before .before .before .before .before .join-counts4 .ensures, c .before .before .before .before .before .before .before .before .before .before .before .join-counts3 .ensures, c .before .before .before .before .before .before .before .before .before .before .before .before .join-counts2 .ensures, c .before .before .before .before .before .before .before .before .before .before .before .before .before .join-counts .ensures, sheet-fits (p .self) (p .more) t))
     (λ c.
     let p = c .before .before .before .before .before .before .before .before .before .before .before .before .before .args in
     let t : sheetFits (sheetOver (p .self) (p .more)) ≡ false = rw (c .before .both2 .ensures, c .before .before .both .ensures, c .before .before .before .all-three2 .ensures, c .before .before .before .before .all-three .ensures, c .before .before .before .before .before .joined .ensures, c .before .before .before .before .before .before .before .join-counts6 .ensures, c .before .before .before .before .before .before .before .before .join-counts5 .ensures, c .before .before .before .before .before .before .before .before .before .join-counts4 .ensures, c .before .before .before .before .before .before .before .before .before .before .join-counts3 .ensures, c .before .before .before .before .before .before .before .before .before .before .before .join-counts2 .ensures, c .before .before .before .before .before .before .before .before .before .before .before .before .join-counts .ensures) at (c .if1 .left) in
