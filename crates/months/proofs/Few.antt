@@ -3,12 +3,11 @@
 use Prim.Native.Nat.{ℕ, suc, _+_, _*_, _^_, _≤_, _<_}
 use mathlib.Core.Bool.{Bool, true, false}
 use mathlib.Core.List.{List, [], _∷_, _++_, append-assoc}
-use mathlib.Core.Path.{_≡_, refl, sym, ap, _∙_, subst}
+use mathlib.Core.Path.{_≡_, sym, ap, _∙_, subst}
 use native.Mathlib.Omega.{arith}
-use native.Mathlib.Nat.{le-trans}
 use borrow.Author.Tests.{lt-ltb}
 use lib.Dec.{T, ltb, leb→le, eqb}
-use lib.IntN.{ℤ, pos, negsuc, negℤ, natAbs, _+ℤ_}
+use lib.IntN.{ℤ, pos, negsuc, negℤ, natAbs}
 use lib.ListN.{length}
 use lib.Signed.{mag, leZ}
 use Rattle.laws.specs.Choice.{pick, both}
@@ -16,16 +15,15 @@ use Rattle.laws.proofs.Finite.{left, right}
 use Rattle.laws.proofs.Ints.{sum-size}
 use Rattle.events.specs.Event.{Event, powerUp, write, read, sample, cycle, clock}
 use Rattle.paper.specs.Ranges.{gBy}
-use Rattle.paper.specs.Samples.{Values, isInside, isSample, storedBehind, valuesAt, microsecondsAt}
+use Rattle.paper.specs.Samples.{Values, isInside, isSample, storedBehind, valuesAt}
 use Rattle.paper.specs.Stored.{byteBy}
 use Rattle.paper.proofs.Offsets.{stored-inside}
 use Rattle.history.specs.History.{accelerometer}
-use Rattle.history.proofs.Conserve.{over-clears-here}
-use Rattle.demand3.specs.Whole.{sum, heldNow, totals}
+use Rattle.demand3.specs.Whole.{sum, totals}
 use Rattle.stretches.proofs.Histories.{accepted-more}
 use Rattle.sheets.specs.Sheets.{countFits, sumFits, axesFit, sheetFits}
-use Rattle.months.specs.Histories.{countHere, countsAt, clockIn, sumOf, tallyOf, axesOf, sheetOf, Earlier, Passes}
-use Rattle.months.specs.Logs.{inAll, joined, countsOver, sheetOverAll, Ticks, AllTick}
+use Rattle.months.specs.Histories.{countHere, countsAt, clockIn, sumOf, tallyOf, axesOf, sheetOf, Passes}
+use Rattle.months.specs.Logs.{inAll, countsOver, sheetOverAll, Ticks, AllTick}
 use Rattle.months.specs.Totals.{AllIn64}
 use Rattle.months.proofs.Tallies.{sum-is}
 use Rattle.months.proofs.Totals.{all-in}

@@ -1,8 +1,8 @@
 -- The sheet that the code makes of a log, event by event, is what its history says; and it is none exactly where at some event a total would not fit.
 -- Assumes nothing.
-use Prim.Native.Nat.{ℕ, suc, _+_, _^_, _≤_, _<_}
+use Prim.Native.Nat.{ℕ, _+_}
 use mathlib.Core.Bool.{Bool, true, false}
-use mathlib.Core.List.{List, [], _∷_, _++_, map}
+use mathlib.Core.List.{List, [], _∷_, _++_}
 use mathlib.Core.Logic.{_≢_}
 use mathlib.Core.Path.{_≡_, refl, sym, ap, _∙_}
 use native.Mathlib.Omega.{arith}
@@ -21,7 +21,7 @@ use Rattle.device.specs.Show.{rangeIn, storedIn}
 use Rattle.events.specs.Event.{Event, powerUp, write, read, sample, cycle, clock, happens}
 use Rattle.events.specs.Run.{after}
 use Rattle.paper.specs.Ranges.{gBy}
-use Rattle.paper.specs.Samples.{Values, allInside, isSample, storedBehind, valuesAt}
+use Rattle.paper.specs.Samples.{allInside, isSample, storedBehind, valuesAt}
 use Rattle.paper.specs.Stored.{byteBy}
 use Rattle.paper.proofs.Offsets.{stored-after}
 use Rattle.paper.proofs.Samples.{sample-is}
@@ -32,7 +32,7 @@ use Rattle.sheets.specs.declared.ByRange.{ByRange}
 use Rattle.tally.specs.Tally.{noSums, oneSample, rangesSampled, sumsClocked, sumsSampled}
 use Rattle.tally.specs.declared.Sums.{Sums}
 use Rattle.sheeting.specs.Sheeting.{sumsAfter, sumsWithSample}
-use Rattle.months.specs.Histories.{countHere, countsAt, clockIn, tallyOf, axesOf, sheetOf}
+use Rattle.months.specs.Histories.{countsAt, clockIn, tallyOf, axesOf, sheetOf}
 
 -- ---- the sums as they are stepped, and as the history says
 unfoldable pub steppedSums : List Event → Sums

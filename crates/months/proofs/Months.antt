@@ -2,7 +2,7 @@
 -- Assumes nothing.
 use Prim.Native.Nat.{ℕ, suc, _+_, _^_, _≤_, _<_}
 use mathlib.Core.Bool.{Bool, true, false, not}
-use mathlib.Core.List.{List, [], _∷_, _++_, map}
+use mathlib.Core.List.{List, [], _∷_, map}
 use mathlib.Core.Path.{_≡_, refl, sym, ap, _∙_, subst}
 use native.Mathlib.Omega.{arith}
 use lib.Dec.{eqb}
@@ -11,7 +11,6 @@ use Rattle.laws.specs.Bits.{worth}
 use Rattle.laws.specs.Choice.{pick, both}
 use Rattle.laws.proofs.Finite.{left, right}
 use Rattle.benchlog.specs.Whole.{readLog}
-use Rattle.events.specs.Event.{Event}
 use Rattle.sheets.specs.Sheets.{emptyMonth, sheetOver, monthOver, sheetFits, countFits, monthFits, monthJoined, joinNumber}
 use Rattle.sheets.specs.declared.Month.{Month}
 use Rattle.sheets.specs.declared.MonthJoined.{MonthJoined}
@@ -20,9 +19,8 @@ use Rattle.sheeting.specs.Sheeting.{logSheet, monthWith}
 use Rattle.sheeting.specs.declared.LogSheet.{LogSheet}
 use Rattle.sheeting.specs.declared.LogSheet.the-variants.{Is, TooLarge}
 use Rattle.months.specs.Histories.{sheetOf, Passes}
-use Rattle.months.specs.Logs.{eventsIn, inAll, sheetOverAll, Ticks, AllTick, SheetOfLog}
-use Rattle.months.specs.Months.{refusedOnce, inMonth, withLog, MonthIn64, AddRule, monthOf, AllShort, refusedIn, MonthSays, MonthRule}
-use Rattle.months.specs.Totals.{AllIn64}
+use Rattle.months.specs.Logs.{eventsIn, inAll, sheetOverAll, AllTick, SheetOfLog}
+use Rattle.months.specs.Months.{refusedOnce, inMonth, withLog, MonthIn64, AddRule, monthOf, AllShort, refusedIn, MonthRule}
 use Rattle.months.proofs.Few as few
 use Rattle.months.proofs.Over.{joins, ordered, single, over-none}
 use Rattle.months.proofs.Promise.{sheet-of-log}

@@ -17,7 +17,7 @@ use Rattle.sheets.specs.declared.ByRange.{ByRange}
 use Rattle.sheets.specs.declared.Sheet.{Sheet}
 use Rattle.months.specs.Histories.{countsAt, clockIn, tallyOf, axesOf, sheetWith, sheetOf, Says, AxesTallied}
 use Rattle.months.specs.Logs.{inAll, joined, countsOver, sheetOverAll, Joins, none, one, join}
-use Rattle.months.proofs.Tallies.{tally-swap, tally-none-left, tally-none-right, tally-append, tallied}
+use Rattle.months.proofs.Tallies.{tally-swap, tally-none-left, tally-append, tallied}
 
 -- ---- numbers and counts of two lists of logs
 sum-append : (f : List Event → ℕ) (hs ks : List (List Event)) → inAll f hs + inAll f ks ≡ inAll f (hs ++ ks)

@@ -3,13 +3,12 @@
 use Prim.Native.Nat.{ℕ, suc, _+_, _-_, _^_, _≤_, _<_}
 use mathlib.Core.Bool.{Bool, true, false}
 use mathlib.Core.List.{List, [], _∷_, _++_, map}
-use mathlib.Core.Logic.{_↔_}
 use mathlib.Core.Path.{_≡_, refl, sym, ap, _∙_, subst}
 use native.Mathlib.Omega.{arith}
 use borrow.Author.Tests.{lt-ltb}
 use lib.Dec.{ltb}
 use lib.ListN.{length, drop}
-use Rattle.laws.specs.Choice.{pick, both}
+use Rattle.laws.specs.Choice.{both}
 use Rattle.laws.proofs.Finite.{left, right}
 use Rattle.benchlog.specs.Reader.{readVersion}
 use Rattle.benchlog.specs.Walk.{Walked, walk, behindVersion, walkLog}
@@ -30,7 +29,7 @@ use Rattle.demand3.specs.Whole.{Totals, totalled, totals, heldNow}
 use Rattle.fifo.specs.declared.Setting.{Setting}
 use Rattle.stretches.specs.Histories.{accountOf}
 use Rattle.stretches.proofs.Histories.{account-first, account-next, bounded}
-use Rattle.sheets.specs.Sheets.{countFits, sheetFits, rangesFit}
+use Rattle.sheets.specs.Sheets.{countFits, sheetFits}
 use Rattle.sheets.specs.declared.Sheet.{Sheet}
 use Rattle.counts.specs.declared.Account.{Account}
 use Rattle.tally.specs.Tally.{noSums, sumsClocked}
@@ -40,7 +39,7 @@ use Rattle.sheeting.specs.Sheeting.{start, at, sumsWaited, nextOn, sheeter, log
 use Rattle.sheeting.specs.declared.LogSheet.{LogSheet}
 use Rattle.sheeting.specs.declared.LogSheet.the-variants.{Is, TooLarge}
 use Rattle.sheeting.specs.declared.Sheeting.{Sheeting}
-use Rattle.months.specs.Histories.{clockIn, sheetOf, Passes}
+use Rattle.months.specs.Histories.{sheetOf, Passes}
 use Rattle.months.specs.Logs.{eventsIn, SheetOfLog, SheetsOver}
 use Rattle.months.proofs.Log.{steppedSums, sumsFit, fitsAlong, along-fits, exactly}
 use Rattle.months.proofs.Over as over

@@ -2,9 +2,9 @@
 -- Assumes nothing.
 use mathlib.Core.Bool.{Bool, true, false}
 use mathlib.Core.List.{List, [], _∷_, _++_}
-use mathlib.Core.Logic.{_⊎_, inl, inr, _↔_}
+use mathlib.Core.Logic.{_⊎_, inl, inr}
 use mathlib.Core.Path.{_≡_, refl, sym, ap, _∙_, subst}
-use lib.IntN.{ℤ, pos, _+ℤ_, +ℤ-assoc, +ℤ-comm, +ℤ-idl, +ℤ-idr}
+use lib.IntN.{ℤ, _+ℤ_, +ℤ-assoc, +ℤ-comm, +ℤ-idl}
 use lib.Signed.{ltZ, _≤ℤ_, ≤ℤ-refl}
 use Rattle.laws.specs.Choice.{pick}
 use Rattle.sheets.specs.Sheets.{noTally, smaller, larger, extremesOver, tallyOver}
@@ -32,13 +32,6 @@ tally-swap a b = λ i. record { extremes = extremes-swap (a .extremes) (b .extre
 
 pub tally-group : (a b c : Tally) → tallyOver (tallyOver a b) c ≡ tallyOver a (tallyOver b c)
 tally-group a b c = λ i. record { extremes = extremes-group (a .extremes) (b .extremes) (c .extremes) i; sum = +ℤ-assoc (a .sum) (b .sum) (c .sum) i }
-
-none-right : (a : Extremes) → extremesOver a NoSample ≡ a
-none-right NoSample = refl
-none-right (Of s l) = refl
-
-pub tally-none-right : (a : Tally) → tallyOver a noTally ≡ a
-tally-none-right a = λ i. record { extremes = none-right (a .extremes) i; sum = +ℤ-idr (a .sum) i }
 
 pub tally-none-left : (a : Tally) → tallyOver noTally a ≡ a
 tally-none-left a = λ i. record { extremes = a .extremes; sum = +ℤ-idl (a .sum) i }

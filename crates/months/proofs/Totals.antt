@@ -2,13 +2,11 @@
 -- Assumes nothing.
 use Prim.Native.Nat.{ℕ, _-_, _^_, _≤_, _<_}
 use mathlib.Core.Bool.{Bool, true, false}
-use mathlib.Core.Logic.{_↔_}
-use mathlib.Core.Path.{_≡_, refl, sym, _∙_}
+use mathlib.Core.Path.{_≡_, refl}
 use native.Mathlib.Omega.{arith}
 use borrow.Author.Tests.{ltb-true, lt-ltb}
 use lib.Dec.{T, le→leb, leb→le}
-use lib.IntN.{ℤ, pos, negsuc, negℤ}
-use lib.Signed.{mag, leZ}
+use lib.IntN.{ℤ, pos, negsuc}
 use Rattle.laws.specs.Choice.{both}
 use Rattle.laws.proofs.Finite.{left, right}
 use Rattle.sheets.specs.Sheets.{countFits, sumFits, axesFit, rangesFit, countsFit, sheetFits, sheetOver, sheetJoined}

@@ -1,6 +1,5 @@
 -- Q-8: what the histories say of a log in numbers, from its events alone. Numbers have no bounds here. In a history the latest event stands first.
 use Prim.Native.Nat.{ℕ, _+_}
-use mathlib.Core.Bool.{Bool, true, false}
 use mathlib.Core.List.{List, [], _∷_, _++_}
 use mathlib.Core.Logic.{_⊎_, _↔_}
 use mathlib.Core.Path.{_≡_}

@@ -7,7 +7,6 @@ use lib.Dec.{eqb}
 use lib.ListN.{length}
 use Rattle.laws.specs.Bits.{worth}
 use Rattle.benchlog.specs.Whole.{readLog}
-use Rattle.events.specs.Event.{Event}
 use Rattle.sheets.specs.Sheets.{emptyMonth, monthOver, joinNumber}
 use Rattle.sheets.specs.declared.Month.{Month}
 use Rattle.sheets.specs.declared.MonthJoined.{MonthJoined}

@@ -2,7 +2,7 @@
 -- Assumes nothing.
 use Prim.Native.Nat.{_+_}
 use mathlib.Core.Bool.{Bool, true}
-use mathlib.Core.Path.{_≡_, refl}
+use mathlib.Core.Path.{_≡_}
 use lib.IntN.{_+ℤ_}
 use Rattle.laws.specs.Choice.{both}
 use Rattle.laws.proofs.Finite.{left, right}
