@@ -5,10 +5,11 @@ use mathlib.Core.List.{[]}
 use mathlib.Core.Path.{_≡_, refl}
 use Rattle.text.specs.Text.{ascii}
 use Rattle.answers.specs.declared.Asked.the-variants.{Stretches, Modes, Samples, Between, Whole}
-use Rattle.arguments.specs.Words.{numberOf, sameWord, byWord, wantedOf, pinsWantedOf}
+use Rattle.arguments.specs.Words.{numberOf, sameWord, byWord, wantedOf, pinsWantedOf, sheetByWord, sheetWantedOf}
 use Rattle.arguments.specs.declared.Number.the-variants.{No, Is}
 use Rattle.arguments.specs.declared.Wanted.the-variants.{Wrong, Of}
 use Rattle.arguments.specs.declared.PinsWanted.the-variants as pins
+use Rattle.arguments.specs.declared.SheetWanted.the-variants as sheet
 
 -- the first is FROM, the second TO
 pub from-to : wantedOf 3 (ascii "7") (ascii "12") ≡ Of (Between 7 12)
@@ -86,3 +87,28 @@ another-pin = refl
 pub two-words : pinsWantedOf 3 (ascii "pins") ≡ pins.Wrong
 unfolding pinsWantedOf
 two-words = refl
+
+-- of the sheet: each word with a name behind it, none without one, and no other word
+pub print-sheet : sheetWantedOf 3 (ascii "print") ≡ sheet.Print
+unfolding sheetWantedOf sheetByWord sameWord
+print-sheet = refl
+
+pub raw-sheet : sheetWantedOf 3 (ascii "raw") ≡ sheet.Raw
+unfolding sheetWantedOf sheetByWord sameWord
+raw-sheet = refl
+
+pub join-sheets : sheetWantedOf 4 (ascii "join") ≡ sheet.Join
+unfolding sheetWantedOf sheetByWord sameWord
+join-sheets = refl
+
+pub join-raw-sheets : sheetWantedOf 5 (ascii "join-raw") ≡ sheet.JoinRaw
+unfolding sheetWantedOf sheetByWord sameWord
+join-raw-sheets = refl
+
+pub no-log : sheetWantedOf 2 (ascii "print") ≡ sheet.Wrong
+unfolding sheetWantedOf
+no-log = refl
+
+pub another-sheet : sheetWantedOf 3 (ascii "join-") ≡ sheet.Wrong
+unfolding sheetWantedOf sheetByWord sameWord
+another-sheet = refl

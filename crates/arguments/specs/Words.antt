@@ -13,6 +13,8 @@ use Rattle.arguments.specs.declared.Wanted.{Wanted}
 use Rattle.arguments.specs.declared.Wanted.the-variants.{Wrong, Of}
 use Rattle.arguments.specs.declared.PinsWanted.{PinsWanted}
 use Rattle.arguments.specs.declared.PinsWanted.the-variants as pins
+use Rattle.arguments.specs.declared.SheetWanted.{SheetWanted}
+use Rattle.arguments.specs.declared.SheetWanted.the-variants as sheet
 
 -- ---- numbers
 -- a decimal digit in ASCII
@@ -67,3 +69,15 @@ unfoldable pub pinsWantedOf : ℕ → List ℕ → PinsWanted
 pinsWantedOf count first =
     pick (eqb count 1) (pins.Of false)
     (pick (eqb count 2) (pick (sameWord first (ascii "pins")) (pins.Of true) pins.Wrong) pins.Wrong)
+
+-- of the sheet: `print`, `raw`, `join` or `join-raw`
+unfoldable pub sheetByWord : List ℕ → SheetWanted
+sheetByWord word =
+    pick (sameWord word (ascii "print")) sheet.Print
+    (pick (sameWord word (ascii "raw")) sheet.Raw
+    (pick (sameWord word (ascii "join")) sheet.Join
+    (pick (sameWord word (ascii "join-raw")) sheet.JoinRaw sheet.Wrong)))
+
+-- behind the program's name, and a name behind it, at least
+unfoldable pub sheetWantedOf : ℕ → List ℕ → SheetWanted
+sheetWantedOf count first = pick (ltb count 3) sheet.Wrong (sheetByWord first)

@@ -1,7 +1,7 @@
 // What the words behind a program's name ask for. What is not asked for in so many words is not asked for.
 ghost use mathlib.Core.Path.{_≡_};
 ghost use Rattle.text.specs.Text.{ascii};
-ghost use Rattle.arguments.specs.Words.{withDigit, numberOf, sameWord, byWord, betweenOf, wantedOf, pinsWantedOf};
+ghost use Rattle.arguments.specs.Words.{withDigit, numberOf, sameWord, byWord, betweenOf, wantedOf, pinsWantedOf, sheetByWord, sheetWantedOf};
 use answers::Asked;
 
 // The number that a word stands for, where it does.
@@ -148,4 +148,66 @@ pub fn pins_of(count: usize, first: &[u8]) -> PinsWanted
         };
     }
     PinsWanted::Wrong
+}
+
+// What is asked for of a sheet, where the words say so: the text or the bytes of the sheet over logs, or of sheets joined.
+pub enum SheetWanted {
+    Wrong,
+    Print,
+    Raw,
+    Join,
+    JoinRaw,
+}
+
+fn is_print(word: &[u8]) -> bool
+    ensures { λ r. ⌜ r ≡ sameWord (now (word .entry)) (ascii "print") ⌝ }
+{
+    check::same(word, b"print")
+}
+
+fn is_raw(word: &[u8]) -> bool
+    ensures { λ r. ⌜ r ≡ sameWord (now (word .entry)) (ascii "raw") ⌝ }
+{
+    check::same(word, b"raw")
+}
+
+fn is_join(word: &[u8]) -> bool
+    ensures { λ r. ⌜ r ≡ sameWord (now (word .entry)) (ascii "join") ⌝ }
+{
+    check::same(word, b"join")
+}
+
+fn is_join_raw(word: &[u8]) -> bool
+    ensures { λ r. ⌜ r ≡ sameWord (now (word .entry)) (ascii "join-raw") ⌝ }
+{
+    check::same(word, b"join-raw")
+}
+
+fn sheet_by_word(word: &[u8]) -> SheetWanted
+    ensures { λ r. ⌜ r ≡ sheetByWord (now (word .entry)) ⌝ }
+{
+    if is_print(word) {
+        return SheetWanted::Print;
+    }
+    if is_raw(word) {
+        return SheetWanted::Raw;
+    }
+    if is_join(word) {
+        return SheetWanted::Join;
+    }
+    if is_join_raw(word) {
+        return SheetWanted::JoinRaw;
+    }
+    SheetWanted::Wrong
+}
+
+// What is asked for of a sheet by so many words, of which the program's name is one, and by the one behind it. Behind that stands a name,
+// at least.
+pub fn sheet_of(count: usize, first: &[u8]) -> SheetWanted
+    ensures { λ r. ⌜ r ≡ sheetWantedOf count (now (first .entry)) ⌝ }
+{
+    if count < 3 {
+        return SheetWanted::Wrong;
+    }
+    sheet_by_word(first)
 }

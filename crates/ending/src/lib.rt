@@ -34,6 +34,13 @@ fn give_misused(digit: u8)
     io::write_all(STATUS_FILENO, &[digit]);
 }
 
+// The digit of a program that has this status.
+fn give_status(status: u8, digit: u8)
+    requires { ⌜ digit ≡ digitOf status ⌝ }
+{
+    io::write_all(STATUS_FILENO, &[digit]);
+}
+
 // What failed, and the record up to which the text is whole.
 fn tell_failed(program: &[u8], what: &[u8], ended: Ended, whole: u64)
     requires { ⌜ whole ≡ wholeUpTo ended ⌝ }
@@ -68,4 +75,9 @@ pub fn tell_use(program: &[u8], use_line: &[u8]) {
     io::write_all(STDERR_FILENO, use_line);
     io::write_all(STDERR_FILENO, b"\n");
     give_misused(digit_of(MISUSED));
+}
+
+// The end of a program that has this status, behind all that it says.
+pub fn tell_status(status: u8) {
+    give_status(status, digit_of(status));
 }
