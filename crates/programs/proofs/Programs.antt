@@ -24,7 +24,8 @@ use Rattle.playback.specs.Replay as replay
 use Rattle.answers.specs.Answer as answer
 use Rattle.answers.specs.declared.Asked.{Asked}
 use Rattle.sheeting.specs.Sheeting as sheet
-use Rattle.sheeting.specs.Sheeting.{sheeter}
+use Rattle.sheets.specs.declared.Month.{Month}
+use Rattle.sheeting.specs.Sheeting.{sheeter, logSheet, monthWith}
 use Rattle.sheeting.specs.declared.Sheeting.{Sheeting}
 use Rattle.jobs.specs.Job.{worker, printedBy, toReplay, toAnswer, toSheet, sheetIn}
 use Rattle.jobs.proofs.Jobs.{led-by}
@@ -39,6 +40,8 @@ use Rattle.stream.proofs.Blocks.{stopped-by}
 use Rattle.outcomes.specs.Demand1.{DueOfLog}
 use Rattle.outcomes.proofs.Demand1.{demand1}
 use Rattle.ending.specs.Ending.{digitOf}
+use Rattle.months.specs.Months.{withLog}
+use Rattle.gathering.specs.Gathering.{addedOf, jobAdded, logAdded}
 use Rattle.programs.specs.Programs.{Followed, Failed, StatusMeans, SheetMeans, ReadMeans, MisuseMeans}
 
 -- ---- by how a pump ended
@@ -191,9 +194,23 @@ silent-log s log =
     same true = refl
     same false = refl
 
+sheet-is : (ended : Ended) (log : List ℕ) → Followed (printedBy task.Sheet toSheet) task.Sheet toSheet ended log → sheetIn (ended .job) ≡ logSheet log
+sheet-is ended log f = ap sheetIn (sheet-status .led ended log f ∙ led-by task.Sheet toSheet log)
+
+unbegun : worker task.Sheet .begun toSheet ≡ false
+unfolding sheet.start
+unbegun = refl
+
+added-is : (m : Month) (ended : Ended) (log : List ℕ) → Followed (printedBy task.Sheet toSheet) task.Sheet toSheet ended log → logAdded m ended ≡ addedOf (withLog m log)
+unfolding logAdded
+added-is m ended log f =
+    ap (λ (h : How). jobAdded m h (ended .job)) (f .how-is)
+    ∙ (λ i. addedOf (monthWith m (sheet-is ended log f i) (sym (number-is (printedBy task.Sheet toSheet) task.Sheet toSheet unbegun ended log f) i)))
+
 pub sheet-means : SheetMeans
 sheet-means = record {
-  sheet = λ ended log f. ap sheetIn (sheet-status .led ended log f ∙ led-by task.Sheet toSheet log);
+  sheet = sheet-is;
+  added = added-is;
   silent = λ log. silent-log (toSheet .sheeting) log;
 }
 

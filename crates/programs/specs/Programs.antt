@@ -9,7 +9,10 @@ use lib.IntN.{pos, negsuc}
 use Rattle.follow.specs.Whole.{joined, ledTo}
 use Rattle.text.specs.Text.{decimal}
 use Rattle.outcomes.specs.Demand1.{DueOfLog}
+use Rattle.sheets.specs.declared.Month.{Month}
 use Rattle.sheeting.specs.Sheeting.{logSheet}
+use Rattle.months.specs.Months.{withLog}
+use Rattle.gathering.specs.Gathering.{addedOf, logAdded}
 use Rattle.jobs.specs.Job.{worker, printedBy, toSheet, sheetIn}
 use Rattle.jobs.specs.declared.Job.{Job}
 use Rattle.jobs.specs.declared.Task.{Task}
@@ -56,6 +59,9 @@ pub record StatusMeans (printed : List ℕ → List ℕ) (k : Task) (job : Job) 
 pub record SheetMeans : Type 0 where
   -- the job that it hands back has the log's sheet
   pub sheet : (ended : Ended) (log : List ℕ) → Followed (printedBy task.Sheet toSheet) task.Sheet toSheet ended log → sheetIn (ended .job) ≡ logSheet log
+  -- and a month takes it as a log is taken, by the number that stops it
+  pub added : (m : Month) (ended : Ended) (log : List ℕ) → Followed (printedBy task.Sheet toSheet) task.Sheet toSheet ended log
+      → logAdded m ended ≡ addedOf (withLog m log)
   -- and nothing was printed
   pub silent : (log : List ℕ) → printedBy task.Sheet toSheet log ≡ []
 
