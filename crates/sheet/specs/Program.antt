@@ -12,10 +12,11 @@ use Rattle.arguments.specs.declared.SheetWanted.{SheetWanted}
 use Rattle.arguments.specs.declared.SheetWanted.the-variants.{Wrong, Print, Raw, Join, JoinRaw}
 use Rattle.stream.specs.Pump.{PumpedAs}
 use Rattle.stream.specs.declared.Ended.{Ended}
-use Rattle.gathering.specs.Gathering.{logAdded, sheetAdded, worseOf}
+use Rattle.gathering.specs.Gathering.{logAdded, sheetAdded, worseOf, monthStatus}
 use Rattle.gathering.specs.declared.Added.{Added}
 use Rattle.gathering.specs.declared.Added.the-variants.{In, TooLarge, NotRead, NoSheet}
 use Rattle.sheet.specs.declared.Gathering.{Gathering}
+use Rattle.sheet.specs.declared.handed.Printed.{Printed}
 
 -- ---- what is asked for: whether sheets are joined, and whether the sheet is written as bytes
 abbrev pub joins : SheetWanted → Bool
@@ -46,12 +47,15 @@ abbrev pub Taken : Bool → Month → Added → Type 0
 Taken true m added = SheetTaken m added
 Taken false m added = LogTaken m added
 
+abbrev pub noSheet : ℕ
+noSheet = 2
+
 -- 1 where it cannot be read, 2 where it is no sheet, 3 where a total would not fit
 abbrev pub addedStatus : Added → ℕ
 addedStatus (In m) = 0
 addedStatus TooLarge = 3
 addedStatus NotRead = 1
-addedStatus NoSheet = 2
+addedStatus NoSheet = noSheet
 
 -- "the sheet unchanged" where it is left out
 abbrev pub monthAfter : Month → Added → Month
@@ -72,3 +76,20 @@ pub record NameTaken (join : Bool) (g g′ : Gathering) : Type 0 where
 pub data Gathered (join : Bool) : ℕ → Gathering → Type 0 where
   none : Gathered join 0 (record { month = emptyMonth; status = 0 })
   more : {n : ℕ} {g g′ : Gathering} → Gathered join n g → NameTaken join g g′ → Gathered join (suc n) g′
+
+-- ---- the sheet, in the form that is asked for. Who has a Printed has handed the whole sheet of its month to a write, or nothing where the status
+-- is that of something that is no sheet
+abbrev pub PrintedOf : Bool → Gathering → Printed → Type 0
+PrintedOf raw g p = (p .gathering ≡ g) × (p .raw ≡ raw)
+
+pub record PrintedAs (names : ℕ) (wanted : SheetWanted) (p : Printed) : Type 0 where
+  pub gathered : Gathered (joins wanted) names (p .gathering)
+  pub form : p .raw ≡ raws wanted
+
+abbrev pub writtenStatus : Bool → ℕ
+writtenStatus true = 0
+writtenStatus false = 1
+
+-- the status of what is left out, of what was refused, and of the write
+abbrev pub statusBehind : Printed → ℕ
+statusBehind p = worseOf (worseOf (p .gathering .status) (monthStatus (p .gathering .month))) (writtenStatus (p .whole))

@@ -1,12 +1,12 @@
 // One sheet over all logs that are named, or over all sheets, behind a word that says what is done: with `print` and `raw` they are logs, with
 // `join` and `join-raw` sheets; `raw` and `join-raw` write the sheet as bytes, the others as text. The name - is standard input.
+mod handed;
+
+ghost use mathlib.Core.Bool.{true, false};
 ghost use mathlib.Core.Path.{_≡_};
 ghost use Prim.Native.Nat.{_-_};
-ghost use Rattle.sheetfile.specs.Format.{encode};
-ghost use Rattle.sheetlines.specs.Lines.{monthText};
 ghost use Rattle.arguments.specs.declared.SheetWanted.the-variants.{Wrong};
-ghost use Rattle.gathering.specs.Gathering.{worseOf, monthStatus};
-ghost use Rattle.sheet.specs.Program.{joins, raws, LogTaken, SheetTaken, Taken, addedStatus, monthAfter, behind, NameTaken, Gathered};
+ghost use Rattle.sheet.specs.Program.{joins, raws, LogTaken, SheetTaken, Taken, addedStatus, monthAfter, behind, NameTaken, Gathered, noSheet, statusBehind, PrintedOf, PrintedAs};
 use arguments::SheetWanted;
 use arguments::sheet_of;
 use gathering::Added;
@@ -14,9 +14,12 @@ use gathering::status_of;
 use gathering::with_log;
 use gathering::with_sheet;
 use gathering::worse;
+use handed::Printed;
+use handed::write_bytes;
+use handed::write_nothing;
+use handed::write_text;
 use libc::STDERR_FILENO;
 use libc::STDIN_FILENO;
-use libc::STDOUT_FILENO;
 use sheetfile::SIZE;
 use sheets::Month;
 
@@ -190,73 +193,68 @@ fn gather(count: usize, join: bool) -> Gathering
 }
 
 // ---- the sheet
-// Its text, handed to the write: that text, whole.
-fn write_text(month: Month, text: &[u8]) -> bool
-    requires { ⌜ now text ≡ monthText month ⌝ }
+fn print_text(gathering: Gathering) -> Printed
+    requires { ⌜ ¬ (gathering .status ≡ noSheet) ⌝ }
+    ensures { λ r. ⌜ PrintedOf false gathering r ⌝ }
 {
-    io::write_all(STDOUT_FILENO, text)
-}
-
-// The same of its bytes.
-fn write_bytes(month: Month, bytes: &[u8]) -> bool
-    requires { ⌜ now bytes ≡ encode month ⌝ }
-{
-    io::write_all(STDOUT_FILENO, bytes)
-}
-
-fn print_text(month: Month) -> bool {
     let mut text = io::buffer();
-    let to = sheetlines::put_month(&mut text, 0, month);
-    write_text(month, &text[..to])
+    let to = sheetlines::put_month(&mut text, 0, gathering.month);
+    write_text(gathering, &text[..to])
 }
 
-fn print_bytes(month: Month) -> bool {
+fn print_bytes(gathering: Gathering) -> Printed
+    requires { ⌜ ¬ (gathering .status ≡ noSheet) ⌝ }
+    ensures { λ r. ⌜ PrintedOf true gathering r ⌝ }
+{
     let mut bytes = io::buffer();
-    sheetfile::write_month(&mut bytes, 0, month);
-    write_bytes(month, &bytes[..SIZE])
-}
-
-// The status of the write: 1 where it failed, which a line says.
-fn print(raw: bool, month: Month) -> u8 {
-    let written = if raw {
-        print_bytes(month)
-    } else {
-        print_text(month)
-    };
-    if written {
-        return 0;
-    }
-    tell_of(b"the output", b" cannot be written");
-    1
+    sheetfile::write_month(&mut bytes, 0, gathering.month);
+    write_bytes(gathering, &bytes[..SIZE])
 }
 
 // Nothing is printed where something is no sheet.
-fn print_whole(raw: bool, gathering: Gathering) -> u8 {
+fn print(raw: bool, gathering: Gathering) -> Printed
+    ensures { λ r. ⌜ PrintedOf raw gathering r ⌝ }
+{
     if gathering.status == NO_SHEET {
-        return 0;
+        return write_nothing(raw, gathering);
     }
-    print(raw, gathering.month)
+    if raw {
+        print_bytes(gathering)
+    } else {
+        print_text(gathering)
+    }
+}
+
+// A line where it could not be written.
+fn tell_written(status: u8) {
+    if status != 0 {
+        tell_of(b"the output", b" cannot be written");
+    }
 }
 
 // The status of all, told last.
-fn tell_status(gathering: Gathering, written: u8, status: u8)
-    requires { ⌜ status ≡ worseOf (worseOf (gathering .status) (monthStatus (gathering .month))) written ⌝ }
+fn tell_status(printed: Printed, status: u8)
+    requires { ⌜ status ≡ statusBehind printed ⌝ }
 {
     ending::tell_status(status);
 }
 
-// The sheet that was asked for, over all names.
-fn tell_gathered(count: usize, wanted: SheetWanted, gathering: Gathering)
-    requires { ⌜ Gathered (joins wanted) (count - 2) gathering ⌝ }
+// How the sheet that was asked for came to its end.
+fn tell_printed(count: usize, wanted: SheetWanted, printed: Printed)
+    requires { ⌜ PrintedAs (count - 2) wanted printed ⌝ }
 {
-    let written = print_whole(writes_bytes(wanted), gathering);
+    let gathering = printed.gathering();
+    let written = printed.status();
+    tell_written(written);
     let status = worse(gathering.status, status_of(gathering.month));
-    tell_status(gathering, written, worse(status, written));
+    tell_status(printed, worse(status, written));
 }
 
+// The sheet over all names.
 fn sheet(count: usize, wanted: SheetWanted) {
     let gathering = gather(count, joins_sheets(wanted));
-    tell_gathered(count, wanted, gathering);
+    let printed = print(writes_bytes(wanted), gathering);
+    tell_printed(count, wanted, printed);
 }
 
 // Where nothing was asked for in so many words.

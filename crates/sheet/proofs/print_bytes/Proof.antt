@@ -1,5 +1,5 @@
 use borrow.Author.Needs.{needs}
-use Rattle.sheet.proofs.Handed.{bytes-handed, bytes-there}
+use Rattle.sheet.proofs.Whole.{bytes-handed, bytes-there}
 use Rattle.sheet.proofs.print_bytes.Statement.{statement}
 use Rattle.sheet.proofs.print_bytes.Tie as tie
 
@@ -14,9 +14,9 @@ print-bytes-spec =
     (λ c.
     let write = c .before .before in
     let b = write .before .before in
-    bytes-there (b .before .args .month) (b .buffer .result) (b .buffer .ensures) (write .write-month .ensures .1))
+    bytes-there (b .before .args .gathering .month) (b .buffer .result) (b .buffer .ensures) (write .write-month .ensures .1))
     (λ c κs.
     let write = c .before .before in
     let b = write .before .before in
-    bytes-handed (b .before .args .month) (b .buffer .result) (b .buffer .ensures) (write .write-month .ensures .1))
+    (bytes-handed (b .before .args .gathering .month) (b .buffer .result) (b .buffer .ensures) (write .write-month .ensures .1), b .before .pre))
     (λ c. search needs))
