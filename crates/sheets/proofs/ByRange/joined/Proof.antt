@@ -19,9 +19,9 @@ joined-spec =
     (λ c κs. tt)
     (λ c.
     let p = c .before .before .before .before .before .before .before .before .before .before .before .before .before .before .before .before .args in
-    let t : rangesFit (rangesOver (p .self) (p .more)) ≡ true = rw (c .before .before .before .before .before .both3 .ensures, c .before .before .before .before .before .before .both2 .ensures, c .before .before .before .before .before .before .before .both .ensures, c .before .before .before .before .before .before .before .before .joined4 .ensures, c .before .before .before .before .before .before .before .before .before .joined3 .ensures, c .before .before .before .before .before .before .before .before .before .before .joined2 .ensures, c .before .before .before .before .before .before .before .before .before .before .before .joined .ensures) at (c .before .before .before .before .if1 .taken) in
+    let t : rangesFit (rangesOver (p .self) (p .more)) ≡ true = simp (c .before .before .before .before .before .both3 .ensures, c .before .before .before .before .before .before .both2 .ensures, c .before .before .before .before .before .before .before .both .ensures, c .before .before .before .before .before .before .before .before .joined4 .ensures, c .before .before .before .before .before .before .before .before .before .joined3 .ensures, c .before .before .before .before .before .before .before .before .before .before .joined2 .ensures, c .before .before .before .before .before .before .before .before .before .before .before .joined .ensures) at (c .before .before .before .before .if1 .taken) in
     simp (c .before .before .before .before .before .before .before .before .joined4 .ensures, c .before .before .before .before .before .before .before .before .before .joined3 .ensures, c .before .before .before .before .before .before .before .before .before .before .joined2 .ensures, c .before .before .before .before .before .before .before .before .before .before .before .joined .ensures, ranges-fit (p .self) (p .more) t))
     (λ c.
     let p = c .before .before .before .before .before .before .before .before .before .before .before .before .args in
-    let t : rangesFit (rangesOver (p .self) (p .more)) ≡ false = rw (c .before .both3 .ensures, c .before .before .both2 .ensures, c .before .before .before .both .ensures, c .before .before .before .before .joined4 .ensures, c .before .before .before .before .before .joined3 .ensures, c .before .before .before .before .before .before .joined2 .ensures, c .before .before .before .before .before .before .before .joined .ensures) at (c .if1 .left) in
+    let t : rangesFit (rangesOver (p .self) (p .more)) ≡ false = simp (c .before .both3 .ensures, c .before .before .both2 .ensures, c .before .before .before .both .ensures, c .before .before .before .before .joined4 .ensures, c .before .before .before .before .before .joined3 .ensures, c .before .before .before .before .before .before .joined2 .ensures, c .before .before .before .before .before .before .before .joined .ensures) at (c .if1 .left) in
     simp t))
