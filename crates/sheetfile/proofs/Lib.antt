@@ -7,3 +7,4 @@ pub mod Back
 pub mod Trips
 pub mod Joins
 pub mod OneOutcome
+pub mod Cases
