@@ -1,5 +1,7 @@
 // The account of a device's events, stepped by what the device says: an event, its answer, and the range, the mode and the frames held
 // behind it. It takes a few numbers whatever the events are.
+#![tactic(auto)]
+
 ghost use Rattle.std.specs.Prelude.{◌≡◌};
 ghost use Rattle.events.specs.Event.{write, read, sample, cycle};
 ghost use Rattle.account.specs.Account.{refused_by, readouts_by, why_of_write, why_of_read, doubt_after, doubts_after, account_after};

@@ -1,4 +1,6 @@
 // What is known of a device behind a record of a log: the account of its events, stepped by the record's own.
+#![tactic(auto)]
+
 ghost use Rattle.std.specs.Prelude.{◌≡◌};
 ghost use Rattle.account.specs.Account.{account_after};
 ghost use Rattle.entries.specs.Entries.{event_of};

@@ -1,10 +1,12 @@
 // A detector's alarm: its status, the marks that come with it, its sign, and the time for which the status is still held. It is set and
 // cleared here alone.
+#![tactic(auto)]
+
 ghost use Rattle.std.specs.Prelude.{◌≡◌};
 ghost use Rattle.alarm.specs.Alarm.{off, raised, cleared, lapse_of, marks_of};
 
 #[repr(C)]
-#[derive(Drop)]
+#[derive(Clone, Copy)]
 pub struct Alarm {
     status: bool,
     mark: u8,
@@ -15,7 +17,7 @@ pub struct Alarm {
 
 // What a clock does to an alarm: it stands, with less time remaining if some was running; or its time is reached, and so many
 // microseconds of the clock come after that.
-#[derive(Drop)]
+#[derive(Clone, Copy)]
 pub enum Lapse {
     Stands(Alarm),
     Expires(u32),

@@ -1,5 +1,7 @@
 // Answers what is asked of the log on standard input, on standard output: its stretches; with `modes`, their modes; with `samples`, its
 // samples too; in words, with FROM TO, what came after record FROM and up to record TO; and with `all`, what came at all.
+#![tactic(auto)]
+
 ghost use Rattle.std.specs.Prelude.{◌≡◌};
 ghost use Rattle.arguments.specs.declared.Wanted.TheVariants.{Wrong};
 ghost use Rattle.answer.specs.Program.{AnsweredAs};

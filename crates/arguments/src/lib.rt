@@ -1,4 +1,6 @@
 // What the words behind a program's name ask for. What is not asked for in so many words is not asked for.
+#![tactic(auto)]
+
 ghost use Rattle.std.specs.Prelude.{◌≡◌};
 ghost use Rattle.text.specs.Text.{ascii};
 ghost use Rattle.arguments.specs.Words.{with_digit, number_of, same_word, by_word, between_of, wanted_of, pins_wanted_of, sheet_by_word, sheet_wanted_of};
@@ -6,14 +8,14 @@ ghost use Rattle.arguments.specs.Words.{with_digit, number_of, same_word, by_wor
 use answers::Asked;
 
 // The number that a word stands for, where it does.
-#[derive(Drop)]
+#[derive(Clone, Copy)]
 pub enum Number {
     No,
     Is(u64),
 }
 
 // What is asked for, where the words say so.
-#[derive(Drop)]
+#[derive(Clone, Copy)]
 pub enum Wanted {
     Wrong,
     Of(Asked),
@@ -124,7 +126,7 @@ pub fn wanted_of(count: usize, first: &[u8], second: &[u8]) -> Wanted
 }
 
 // Whether the pins are asked for, where the words say so.
-#[derive(Drop)]
+#[derive(Clone, Copy)]
 pub enum PinsWanted {
     Wrong,
     Of(bool),
@@ -155,7 +157,7 @@ pub fn pins_of(count: usize, first: &[u8]) -> PinsWanted
 }
 
 // What is asked for of a sheet, where the words say so: the text or the bytes of the sheet over logs, or of sheets joined.
-#[derive(Drop)]
+#[derive(Clone, Copy)]
 pub enum SheetWanted {
     Wrong,
     Print,

@@ -1,10 +1,12 @@
 // The data channels of 01: samples of twelve bits, their new-data bits and locks.
+#![tactic(auto)]
+
 ghost use Rattle.std.specs.Prelude.{◌≡◌};
 ghost use Rattle.channels.specs.Codes.{in_range, code, codes, lsb_of, msb_of};
 ghost use Rattle.channels.specs.Channels.{no_sample, with_sample, lsb, msb, after_lsb, unlocked, no_samples, sampled, released, byte_at, after_read};
 
 // The codes of one sample's three axes.
-#[derive(Drop)]
+#[derive(Clone, Copy)]
 pub struct Codes {
     pub x: u32,
     pub y: u32,
@@ -14,7 +16,7 @@ pub struct Codes {
 // One axis: the present sample's code, whether it is new, and the upper byte that a lock holds. The code takes 32 bits, so that a channel
 // has 8 bytes and moves as one number.
 #[repr(C)]
-#[derive(Drop)]
+#[derive(Clone, Copy)]
 pub struct Channel {
     code: u32,
     fresh: bool,
@@ -23,7 +25,7 @@ pub struct Channel {
 }
 
 #[repr(C)]
-#[derive(Drop)]
+#[derive(Clone, Copy)]
 pub struct Channels {
     x: Channel,
     y: Channel,

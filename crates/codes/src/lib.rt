@@ -1,4 +1,6 @@
 // What the codes of 0F, 21, 27 and 3E mean, and the addresses that more than one rule names.
+#![tactic(auto)]
+
 ghost use Rattle.std.specs.Prelude.{◌≡◌};
 ghost use Rattle.codes.specs.Range.{range_of, is_reserved_range};
 ghost use Rattle.codes.specs.Latch.{latch_of, is_unlatched, hold_of};
@@ -73,7 +75,7 @@ pub const CONTROL_AT: usize = 0x3E;
 pub const FRAMES_AT: usize = 0x3F;
 
 // What the low nibble of 0x0F means.
-#[derive(Drop)]
+#[derive(Clone, Copy)]
 pub enum Range {
     G2,
     G4,
@@ -83,7 +85,7 @@ pub enum Range {
 }
 
 // What the low nibble of 0x21 means: a status is not latched, is latched, or is held for so many microseconds.
-#[derive(Drop)]
+#[derive(Clone, Copy)]
 pub enum Latch {
     Unlatched,
     Latched,
@@ -91,7 +93,7 @@ pub enum Latch {
 }
 
 // The mode bits of 0x3E. The reserved code is refused before it can be stored.
-#[derive(Drop)]
+#[derive(Clone, Copy)]
 pub enum Mode {
     Bypass,
     Fifo,
@@ -100,7 +102,7 @@ pub enum Mode {
 }
 
 // The axes that 0x3E selects.
-#[derive(Drop)]
+#[derive(Clone, Copy)]
 pub enum Axes {
     All,
     X,

@@ -1,6 +1,8 @@
 // What is known of a device's events, as a few numbers: samples accepted, taken and lost, frames held when the FIFO was cleared, events
 // refused, and readouts; the range and the FIFO's mode in force, and whether each is in doubt; and why a stretch of events ends. It rests
 // on no device: who steps it gives what changed.
+#![tactic(auto)]
+
 ghost use Rattle.std.specs.Prelude.{◌≡◌};
 ghost use Rattle.counts.specs.Counts.{no_counts, no_doubts, first_account, sum, less, left, with_readouts, differences, account_moved, arrived, ends, is_same_doubt, is_same_range, is_same_mode, in_g, mode_bits, back_of};
 
@@ -9,7 +11,7 @@ use laws::both;
 
 // How many, since power-up: samples accepted, frames taken, samples lost, frames held when the FIFO was cleared, events refused, and
 // readouts.
-#[derive(Drop)]
+#[derive(Clone, Copy)]
 pub struct Counts {
     pub accepted: u64,
     pub taken: u64,
@@ -21,21 +23,21 @@ pub struct Counts {
 
 // Whether what a register sets is in doubt: by the refused write to it of this byte, in the record of this number. The byte comes first, so
 // that a doubt has no gap that a copy would move.
-#[derive(Drop)]
+#[derive(Clone, Copy)]
 pub enum Doubt {
     No,
     By(u8, u64),
 }
 
 // The doubt of the range, by 0x0F, and of the FIFO's mode, by 0x3E.
-#[derive(Drop)]
+#[derive(Clone, Copy)]
 pub struct Doubts {
     pub range: Doubt,
     pub mode: Doubt,
 }
 
 // Why a stretch of events ends with this one, where it does.
-#[derive(Drop)]
+#[derive(Clone, Copy)]
 pub enum Why {
     Nothing,
     Readout,
@@ -45,7 +47,7 @@ pub enum Why {
 }
 
 // What is known after so many events: the counts, the range and the mode in force and their doubts, and the frames held.
-#[derive(Drop)]
+#[derive(Clone, Copy)]
 pub struct Account {
     pub number: u64,
     pub counts: Counts,

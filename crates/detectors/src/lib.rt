@@ -1,4 +1,6 @@
 // All detectors together, with the previous sample that the slope detectors share: what a sample, a clock and a write do to them.
+#![tactic(auto)]
+
 ghost use Rattle.std.specs.Prelude.{◌≡◌};
 ghost use Rattle.detectors.specs.Detectors as detectors;
 
@@ -14,7 +16,7 @@ use slopes::{Previous, no_axis};
 use slow::Slow;
 
 #[repr(C)]
-#[derive(Drop)]
+#[derive(Clone, Copy)]
 pub struct Detectors {
     previous: Previous,
     motion: Motion,
@@ -23,7 +25,7 @@ pub struct Detectors {
 }
 
 // The alarms of low-g, of high-g, of any-motion, and of slow motion and no-motion.
-#[derive(Drop)]
+#[derive(Clone, Copy)]
 pub struct Alarms {
     pub low: Alarm,
     pub high: Alarm,

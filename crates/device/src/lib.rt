@@ -1,4 +1,6 @@
 // The device of 01: its record, its five events and Q-4's clock, and four questions. Each event takes the record by value and hands it back.
+#![tactic(auto)]
+
 ghost use Rattle.std.specs.Prelude.{◌≡◌, length};
 ghost use Rattle.device.specs.Device.{power_up};
 ghost use Rattle.device.specs.Parts.{registers_of, frames_of, answered_whole};
@@ -26,7 +28,7 @@ use parts::{CoreAnswered, mode_in, range_in};
 use writing::first_bytes;
 
 #[repr(C)]
-#[derive(Drop)]
+#[derive(Clone, Copy)]
 pub struct Device {
     regs: [u8; 64],
     channels: Channels,
@@ -41,7 +43,7 @@ pub struct Device {
 }
 
 // An event's answer, and the device after it.
-#[derive(Drop)]
+#[derive(Clone, Copy)]
 pub struct Answered {
     pub answer: Answer,
     pub device: Device,

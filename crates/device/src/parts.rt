@@ -25,7 +25,7 @@ use registers::{Answer, is_accepted, judge_write, read_answer};
 
 // A device without its registers and its FIFO's store.
 #[repr(C)]
-#[derive(Drop)]
+#[derive(Clone, Copy)]
 pub struct Core {
     channels: Channels,
     // the byte of 0x08
@@ -38,7 +38,7 @@ pub struct Core {
 }
 
 // An event's answer, and the core after it.
-#[derive(Drop)]
+#[derive(Clone, Copy)]
 pub struct CoreAnswered {
     pub answer: Answer,
     pub core: Core,

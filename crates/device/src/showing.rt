@@ -9,7 +9,7 @@ use fifo::{Fifo, depth_in};
 use interrupts::{Sources, Statuses, data_byte, detector_byte, statuses_of};
 
 // What shows beside registers and channels.
-#[derive(Drop)]
+#[derive(Clone, Copy)]
 pub struct Inside {
     pub temperature: u8,
     pub came: bool,

@@ -1,5 +1,7 @@
 // How a program that pumps a log ends. Where the input cannot be read or the output cannot be written, a line on standard error says so.
 // A program has no status of its own: its digit goes to descriptor 3, for a caller that opens it.
+#![tactic(auto)]
+
 ghost use Rattle.std.specs.Prelude.{◌≡◌};
 ghost use Rattle.stream.specs.Pump.{status_of};
 ghost use Rattle.ending.specs.Ending.{digit_of, misused, whole_up_to};

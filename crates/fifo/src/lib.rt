@@ -1,5 +1,7 @@
 // The FIFO of 01: frames in a flat store of bytes, the oldest first. The store is lent by its owner, and its numbers go by value. The
 // work is done on a store of any length, so that chips of other depths can share it; the accelerometer's is thin over it.
+#![tactic(auto)]
+
 ghost use Rattle.std.specs.Prelude.{◌≡◌, ◌+◌, ◌-◌, ◌*◌, ◌^◌, ◌≤◌, ◌<◌, min, length, take, ltb};
 ghost use Rattle.std.proofs.Math.Seq.{paste};
 ghost use Rattle.laws.specs.Choice.{pick};
@@ -18,14 +20,14 @@ pub const ROOM: usize = 192;
 pub const LONGEST_FRAME: usize = 6;
 
 // Which frame is dropped when the FIFO is full.
-#[derive(Drop)]
+#[derive(Clone, Copy)]
 pub enum Drop {
     Newcomer,
     Oldest,
 }
 
 // How a FIFO is set up from one clear to the next: its depth, its drop rule and the bytes of a frame.
-#[derive(Drop)]
+#[derive(Clone, Copy)]
 pub struct Setting {
     pub depth: usize,
     pub drops: Drop,
@@ -34,7 +36,7 @@ pub struct Setting {
 
 // The numbers beside a store: how many frames it holds, and whether one was lost. In 8 bytes, which move as one.
 #[repr(C)]
-#[derive(Drop)]
+#[derive(Clone, Copy)]
 pub struct Fifo {
     count: u32,
     overrun: bool,

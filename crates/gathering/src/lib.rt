@@ -1,4 +1,6 @@
 // How a month takes logs and sheets, one after the other, and the status that a program has then.
+#![tactic(auto)]
+
 ghost use Rattle.std.specs.Prelude.{◌≡◌};
 ghost use Rattle.gathering.specs.Gathering.{added_of, log_added, read_added, sheet_added, rank_of, worse_of, month_status};
 
@@ -8,7 +10,7 @@ use sheets::{Month, MonthJoined};
 use stream::{Ended, How};
 
 // A month with one log or one sheet more; or why it is left out: a total would not fit, it could not be read, or it is no sheet.
-#[derive(Drop)]
+#[derive(Clone, Copy)]
 pub enum Added {
     In(Month),
     TooLarge,

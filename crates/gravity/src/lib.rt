@@ -1,4 +1,6 @@
 // Low-g and high-g: what a sample shows of each, by the bytes that the registers hold, and for how long it has shown it.
+#![tactic(auto)]
+
 ghost use Rattle.std.specs.Prelude.{◌≡◌, ◌*◌, nat_abs};
 ghost use Rattle.gravity.specs.Sizes.{size_and_sign, time_of};
 ghost use Rattle.gravity.specs.Low.{are_below, shown_of, judged_low, low_shown};
@@ -17,7 +19,7 @@ use spell::{Shown, Spell, Stopwatch};
 
 // The stopwatches of low-g and of high-g; both go as one number of 64 bits.
 #[repr(C)]
-#[derive(Drop)]
+#[derive(Clone, Copy)]
 pub struct Watches {
     low: Stopwatch,
     high: Stopwatch,
@@ -25,7 +27,7 @@ pub struct Watches {
 
 // Low-g and high-g, each of which is a spell: a stopwatch and an alarm.
 #[repr(C)]
-#[derive(Drop)]
+#[derive(Clone, Copy)]
 pub struct Gravity {
     watches: Watches,
     low: Alarm,

@@ -1,4 +1,6 @@
 // Interrupts and pins of 01: when each status is 1, the bytes that show them, and the two pins.
+#![tactic(auto)]
+
 ghost use Rattle.std.specs.Prelude.{◌≡◌};
 ghost use Rattle.laws.specs.Bits.{worth};
 ghost use Rattle.interrupts.specs.Statuses as statuses;
@@ -10,7 +12,7 @@ use laws::{bit, both};
 
 // What the statuses are made of beside the registers: the frame count and the depth, whether an accepted sample came since the
 // last cycle start or reset, and whether the alarms of low-g, of high-g, of any-motion, and of slow motion and no-motion are set.
-#[derive(Drop)]
+#[derive(Clone, Copy)]
 pub struct Sources {
     pub count: usize,
     pub depth: usize,
@@ -22,7 +24,7 @@ pub struct Sources {
 }
 
 // The statuses; `slow` is that of slow motion and no-motion, `ready` is 01's data.
-#[derive(Drop)]
+#[derive(Clone, Copy)]
 pub struct Statuses {
     pub low: bool,
     pub high: bool,
@@ -33,20 +35,20 @@ pub struct Statuses {
     pub full: bool,
 }
 
-#[derive(Drop)]
+#[derive(Clone, Copy)]
 pub enum Pin {
     Int1,
     Int2,
 }
 
-#[derive(Drop)]
+#[derive(Clone, Copy)]
 pub enum Level {
     Low,
     High,
     Released,
 }
 
-#[derive(Drop)]
+#[derive(Clone, Copy)]
 pub struct Pins {
     pub int1: Level,
     pub int2: Level,

@@ -1,4 +1,6 @@
 // Who follows a log for a program, by its task: the replay, the answer, or the sheet. One pump serves them all.
+#![tactic(auto)]
+
 ghost use Rattle.std.specs.Prelude.{◌-◌, ◌≡◌, length};
 ghost use Rattle.follow.specs.Follow.{run_of, Running};
 ghost use Rattle.jobs.specs.Job.{task_of, to_replay, to_answer, to_sheet, worker, record_count, sheet_in};
@@ -9,7 +11,7 @@ use playback::Replay;
 use sheeting::{LogSheet, Sheeting};
 
 // What a program does with a log.
-#[derive(Drop)]
+#[derive(Clone, Copy)]
 pub enum Task {
     Replay,
     Answer,
@@ -34,7 +36,7 @@ pub fn task_of(number: u8) -> Task
 }
 
 // The states of all tasks. Whoever follows a log moves that of his own task on; the others stay as they are.
-#[derive(Drop)]
+#[derive(Clone, Copy)]
 pub struct Job {
     replay: Replay,
     answering: Answering,
@@ -43,7 +45,7 @@ pub struct Job {
 
 // What a run did: why it ended, the number of the refusal that stopped it (0 where none did), the place in the log and the place behind
 // what it wrote.
-#[derive(Drop)]
+#[derive(Clone, Copy)]
 pub struct Ran {
     pub next: Next,
     pub refusal: u8,

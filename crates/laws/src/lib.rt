@@ -1,5 +1,7 @@
 // What every crate shares: a bit of a byte, two tests at once, the 16 bits of a signed number, the least of two numbers, bytes that move. The
 // laws themselves are in specs/ and proofs/.
+#![tactic(auto)]
+
 ghost use Rattle.std.specs.Prelude.{◌≡◌, min, length};
 ghost use Rattle.std.specs.Int.{w16};
 ghost use Rattle.std.proofs.Common.{of_z};

@@ -1,4 +1,6 @@
 // A detector by points in a row, as 01's any-motion is: the points of the slopes, their runs, and an alarm.
+#![tactic(auto)]
+
 ghost use Rattle.std.specs.Prelude.{◌≡◌};
 ghost use Rattle.motion.specs.Detector.{quiet, with_alarm, points_needed, after_over, after_calm, after_sample, restarted, clocked};
 
@@ -7,7 +9,7 @@ use slopes::{Point, Runs, Slopes, judge};
 
 // What the registers say, of any-motion the bytes of 0x16, 0x27 and 0x28: the axes, of the points in a row the lowest two bits, and the
 // threshold; whether 0x21 is non-latched, and for how many microseconds it holds a status, 0 for no time.
-#[derive(Drop)]
+#[derive(Clone, Copy)]
 pub struct Settings {
     pub axes: u8,
     pub points: u8,
@@ -17,7 +19,7 @@ pub struct Settings {
 }
 
 #[repr(C)]
-#[derive(Drop)]
+#[derive(Clone, Copy)]
 pub struct Motion {
     runs: Runs,
     alarm: Alarm,

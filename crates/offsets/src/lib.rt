@@ -1,11 +1,13 @@
 // Offsets: what is stored of a given sample, by the range and the bytes of 0x38 to 0x3A.
+#![tactic(auto)]
+
 ghost use Rattle.std.specs.Prelude.{◌≡◌};
 ghost use Rattle.offsets.specs.Offsets.{step_of, signed_byte, held_inside, stored_axis, stored_by};
 
 use codes::{RANGE_AT, Range, X_OFFSET_AT, Y_OFFSET_AT, Z_OFFSET_AT, range_of};
 
 // A sample as it is stored.
-#[derive(Drop)]
+#[derive(Clone, Copy)]
 pub struct Stored {
     pub x: i16,
     pub y: i16,

@@ -1,1 +1,2 @@
 // No code: what the crates below promise, taken together. The theorems are in proofs/.
+#![tactic(auto)]

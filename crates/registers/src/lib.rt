@@ -1,4 +1,6 @@
 // The registers of 01: the answers, which writes and reads are refused, and what a write does.
+#![tactic(auto)]
+
 ghost use Rattle.std.specs.Prelude.{◌≡◌};
 ghost use Rattle.registers.specs.Answers.{number, place, accepted};
 ghost use Rattle.registers.specs.Refused.{reserved_code, not_modelled, lack_at, answer_at, read_answer};
@@ -22,7 +24,7 @@ pub const SOFT_RESET: u8 = 0xB6;
 
 // What an event is answered; `number_of` gives its number. The last three name what the twin lacks; the third of them is self-test, memory,
 // calibration or offset reset.
-#[derive(Drop)]
+#[derive(Clone, Copy)]
 pub enum Answer {
     Done,
     NoAddress,
@@ -36,7 +38,7 @@ pub enum Answer {
 }
 
 // Which detectors a write starts anew: any-motion; low-g and high-g; slow motion and no-motion.
-#[derive(Drop)]
+#[derive(Clone, Copy)]
 pub struct Restarts {
     pub motion: bool,
     pub gravity: bool,
@@ -45,7 +47,7 @@ pub struct Restarts {
 
 // What a write does: its byte is stored; the FIFO is emptied and its overrun cleared; the locks are released; the previous sample is
 // forgotten; detectors start anew; everything goes back to power-up.
-#[derive(Drop)]
+#[derive(Clone, Copy)]
 pub struct Deeds {
     pub stores: bool,
     pub empties: bool,
@@ -70,7 +72,7 @@ const NO_DEEDS: Deeds = Deeds {
 };
 
 // What the registers say of a write: its answer, what it does, and the byte that is stored where one is.
-#[derive(Drop)]
+#[derive(Clone, Copy)]
 pub struct Judged {
     pub answer: Answer,
     pub deeds: Deeds,

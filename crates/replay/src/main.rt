@@ -1,4 +1,6 @@
 // Replays the log on standard input to standard output; with `pins`, the pins stand behind every record's line.
+#![tactic(auto)]
+
 ghost use Rattle.std.specs.Prelude.{◌≡◌};
 ghost use Rattle.arguments.specs.declared.PinsWanted.TheVariants.{Wrong};
 ghost use Rattle.replay.specs.Program.{ReplayedAs};

@@ -1,4 +1,6 @@
 // Replays each log of data/, whose files are named 000, 001, .., and prints what the log's writer answers at the edges of its room.
+#![tactic(auto)]
+
 use benchlog::{ClockEntry, CycleEntry, Entry, WriteEntry, room_number_of};
 use libc::STDOUT_FILENO;
 use logwriter::{write_entry, write_version};

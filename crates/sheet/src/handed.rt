@@ -9,7 +9,7 @@ use crate::Gathering;
 use libc::STDOUT_FILENO;
 
 // Of what, as bytes or as text, and whether all of it was taken.
-#[derive(Drop)]
+#[derive(Clone, Copy)]
 pub struct Printed {
     gathering: Gathering,
     raw: bool,

@@ -1,5 +1,7 @@
 // One sheet over all logs that are named, or over all sheets, behind a word that says what is done: with `print` and `raw` they are logs, with
 // `join` and `join-raw` sheets; `raw` and `join-raw` write the sheet as bytes, the others as text. The name - is standard input.
+#![tactic(auto)]
+
 mod handed;
 
 ghost use Rattle.std.specs.Prelude.{true, false, ◌≡◌, ◌-◌};
@@ -20,7 +22,7 @@ const DONE_FILENO: i32 = 5;
 const NO_SHEET: u8 = 2;
 
 // The month of the names that are done, and the status of what is left out.
-#[derive(Drop)]
+#[derive(Clone, Copy)]
 struct Gathering {
     month: Month,
     status: u8,

@@ -1,4 +1,6 @@
 // Q-8: the sheet of a month as text, written into a lent buffer: nineteen lines, for all of which there is room or none is begun.
+#![tactic(auto)]
+
 ghost use Rattle.std.specs.Prelude.{◌≡◌, ◌++◌, ◌+◌, ◌*◌, ◌≤◌, nat_abs, length};
 ghost use Rattle.benchlog.specs.Writer.{lacks_room};
 ghost use Rattle.text.specs.Text.{most_digits, decimal, left_in, place_after};

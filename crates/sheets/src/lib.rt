@@ -1,5 +1,7 @@
 // Q-8: a sheet of many logs in numbers, and two of them joined. All is exact, in 64 bits: counts and clock unsigned, sums signed. Where a total would not
 // fit, the first of two stays as it is. It rests on no device: who makes a sheet of a log gives what came.
+#![tactic(auto)]
+
 ghost use Rattle.std.specs.Prelude.{◌≡◌};
 ghost use Rattle.laws.specs.Choice.{both};
 ghost use Rattle.sheets.specs.Sheets.{no_tally, no_tallies, no_ranges, empty_sheet, empty_month, smaller, larger, extremes_over, count_joined, sum_joined, tally_joined, axes_joined, ranges_joined, sheet_joined, month_joined, join_number};
@@ -7,21 +9,21 @@ ghost use Rattle.sheets.specs.Sheets.{no_tally, no_tallies, no_ranges, empty_she
 use laws::both;
 
 // The smallest and the largest of some stored counts: none where no sample came.
-#[derive(Drop)]
+#[derive(Clone, Copy)]
 pub enum Extremes {
     NoSample,
     Of(i16, i16),
 }
 
 // What the stored counts of one axis in one range come to: their extremes, and their sum.
-#[derive(Drop)]
+#[derive(Clone, Copy)]
 pub struct Tally {
     pub extremes: Extremes,
     pub sum: i64,
 }
 
 // By axis.
-#[derive(Drop)]
+#[derive(Clone, Copy)]
 pub struct ByAxis {
     pub x: Tally,
     pub y: Tally,
@@ -29,7 +31,7 @@ pub struct ByAxis {
 }
 
 // By the range in force at the sample: 2, 4, 8 and 16 g.
-#[derive(Drop)]
+#[derive(Clone, Copy)]
 pub struct ByRange {
     pub g2: ByAxis,
     pub g4: ByAxis,
@@ -39,7 +41,7 @@ pub struct ByRange {
 
 // A sheet: samples accepted, taken by a readout, held at the end, lost, and held when the FIFO was cleared; the clock, in microseconds; and
 // the tallies of the stored counts.
-#[derive(Drop)]
+#[derive(Clone, Copy)]
 pub struct Sheet {
     pub accepted: u64,
     pub taken: u64,
@@ -51,7 +53,7 @@ pub struct Sheet {
 }
 
 // A sheet, over how many logs it is, and how many of them were refused.
-#[derive(Drop)]
+#[derive(Clone, Copy)]
 pub struct Month {
     pub sheet: Sheet,
     pub logs: u64,
@@ -59,43 +61,43 @@ pub struct Month {
 }
 
 // Two totals joined: whether the sum fits, and the sum; where it does not fit, the first as it was.
-#[derive(Drop)]
+#[derive(Clone, Copy)]
 pub struct CountJoined {
     pub fits: bool,
     pub count: u64,
 }
 
-#[derive(Drop)]
+#[derive(Clone, Copy)]
 pub struct SumJoined {
     pub fits: bool,
     pub sum: i64,
 }
 
-#[derive(Drop)]
+#[derive(Clone, Copy)]
 pub struct TallyJoined {
     pub fits: bool,
     pub tally: Tally,
 }
 
-#[derive(Drop)]
+#[derive(Clone, Copy)]
 pub struct AxesJoined {
     pub fits: bool,
     pub axes: ByAxis,
 }
 
-#[derive(Drop)]
+#[derive(Clone, Copy)]
 pub struct RangesJoined {
     pub fits: bool,
     pub ranges: ByRange,
 }
 
-#[derive(Drop)]
+#[derive(Clone, Copy)]
 pub struct SheetJoined {
     pub fits: bool,
     pub sheet: Sheet,
 }
 
-#[derive(Drop)]
+#[derive(Clone, Copy)]
 pub struct MonthJoined {
     pub fits: bool,
     pub month: Month,

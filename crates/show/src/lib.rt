@@ -1,4 +1,6 @@
 // Printing for the test programs. No contract can say what is written.
+#![tactic(auto)]
+
 use libc::STDOUT_FILENO;
 
 pub fn text(bytes: &[u8]) {

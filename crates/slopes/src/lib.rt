@@ -1,4 +1,6 @@
 // What the slope detectors share: the previous sample, the slopes from it to the next, the point that these give, and runs of points.
+#![tactic(auto)]
+
 ghost use Rattle.std.specs.Prelude.{◌≡◌, leb};
 ghost use Rattle.slopes.specs.Slope.{slope_of};
 ghost use Rattle.slopes.specs.Previous.{no_previous, remembered, forgotten, slopes_to};
@@ -8,14 +10,14 @@ ghost use Rattle.slopes.specs.Runs.{no_runs, longer, over_run, calm_run};
 use laws::bit;
 
 // The size of the difference of two samples, and whether it is negative.
-#[derive(Drop)]
+#[derive(Clone, Copy)]
 pub struct Slope {
     pub size: u32,
     pub falling: bool,
 }
 
 // The slopes of a sample's axes; nothing is known of them where no sample came before it.
-#[derive(Drop)]
+#[derive(Clone, Copy)]
 pub struct Slopes {
     pub known: bool,
     pub x: Slope,
@@ -25,7 +27,7 @@ pub struct Slopes {
 
 // The sample before the next one, if it is known.
 #[repr(C)]
-#[derive(Drop)]
+#[derive(Clone, Copy)]
 pub struct Previous {
     x: i16,
     y: i16,
@@ -34,7 +36,7 @@ pub struct Previous {
 }
 
 // What a sample gives: no point, a calm one, or one that is over on an axis (1 is x, 2 is y, 4 is z), with its sign.
-#[derive(Drop)]
+#[derive(Clone, Copy)]
 pub enum Point {
     None,
     Calm,
@@ -43,7 +45,7 @@ pub enum Point {
 
 // How many over points, and how many calm ones, came in a row; one of the two is 0.
 #[repr(C)]
-#[derive(Drop)]
+#[derive(Clone, Copy)]
 pub struct Runs {
     over: u8,
     calm: u8,

@@ -1,5 +1,7 @@
 // Slow motion and no-motion: one detector, in which bit 3 of 0x18 chooses. Slow motion counts points as any-motion does; no-motion waits by the
 // clock for calm.
+#![tactic(auto)]
+
 ghost use Rattle.std.specs.Prelude.{◌≡◌};
 ghost use Rattle.slow.specs.Slow.{quiet, spell_of, with_spell, restarted, clocked, calm_shown, no_motion_sampled, is_no_motion, sampled};
 
@@ -13,7 +15,7 @@ use spell::{Shown, Spell, Stopwatch};
 // Slow motion's runs, the alarm of both, and the clock since the last over point, restart or expiry. Of its settings, `axes` is the byte of
 // 0x18, `threshold` that of 0x29 and `points` the code in bits 7:2 of 0x27, whose lowest two bits are slow motion's.
 #[repr(C)]
-#[derive(Drop)]
+#[derive(Clone, Copy)]
 pub struct Slow {
     motion: Motion,
     watch: Stopwatch,

@@ -1,4 +1,6 @@
 // For how long a condition has been met at each sample, and the alarm that this raises: what low-g and high-g share.
+#![tactic(auto)]
+
 ghost use Rattle.std.specs.Prelude.{◌≡◌, leb};
 ghost use Rattle.spell.specs.Stopwatch.{stopped, started, longer, is_reached, going_on};
 ghost use Rattle.spell.specs.Spell.{quiet, restarted, clocked, after_met, after_unmet, after_sample};
@@ -7,7 +9,7 @@ use alarm::{Alarm, Lapse};
 
 // 0 where it is stopped, else one more than the microseconds of clock since it was started, as far as 32 bits go.
 #[repr(C)]
-#[derive(Drop)]
+#[derive(Clone, Copy)]
 pub struct Stopwatch {
     count: u32,
 }
@@ -63,7 +65,7 @@ impl Stopwatch {
 
 // What a sample shows of a condition: nothing, where it is not asked for; that it is met, with a mark and a sign; that it is not met; or
 // that it is so far from met that a status which is not latched clears.
-#[derive(Drop)]
+#[derive(Clone, Copy)]
 pub enum Shown {
     Nothing,
     Met(u8, bool),
@@ -72,7 +74,7 @@ pub enum Shown {
 }
 
 // Each of its functions that begins a run anew is given the stopwatch with which a run begins.
-#[derive(Drop)]
+#[derive(Clone, Copy)]
 pub struct Spell {
     pub watch: Stopwatch,
     pub alarm: Alarm,

@@ -7,7 +7,7 @@ ghost use Rattle.stream.specs.Pump.{ran_over};
 use crate::State;
 
 // What the write of a text came to: whether all of it was taken.
-#[derive(Drop)]
+#[derive(Clone, Copy)]
 pub struct Delivered {
     whole: bool,
 }

@@ -1,5 +1,7 @@
 // Pumps a log from one descriptor through a job, which follows it, to another. No contract can say what is read or written: of the two
 // calls this says what they are handed and what is made of what they give; every byte of the text is the job's.
+#![tactic(auto)]
+
 mod handed;
 
 ghost use Rattle.std.specs.Prelude.{◌≡◌, length};
@@ -21,7 +23,7 @@ const NOWHERE: i32 = -1;
 
 // The job, as it is behind the text that is written; and the window of the buffer, where the bytes of the input stand that are there and
 // not used.
-#[derive(Drop)]
+#[derive(Clone, Copy)]
 struct State {
     job: Job,
     window: Window,
@@ -29,7 +31,7 @@ struct State {
 
 // What a turn of the pump comes to: another turn; the end of the log, by the refusal with this number or, where it is 0, by none; or a
 // call that failed.
-#[derive(Drop)]
+#[derive(Clone, Copy)]
 pub enum How {
     On,
     Stopped(u8),
@@ -38,7 +40,7 @@ pub enum How {
 }
 
 // How a pump came to its end, at which task, and the job as it is there: behind the last text that was written whole.
-#[derive(Drop)]
+#[derive(Clone, Copy)]
 pub struct Ended {
     pub how: How,
     pub task: Task,
@@ -46,7 +48,7 @@ pub struct Ended {
 }
 
 // That, and the state behind the turn.
-#[derive(Drop)]
+#[derive(Clone, Copy)]
 struct Turned {
     how: How,
     state: State,

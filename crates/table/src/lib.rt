@@ -1,9 +1,11 @@
 // The table of 01: reset byte, write mask and the bits of which a 1 is refused, by address.
+#![tactic(auto)]
+
 ghost use Rattle.std.specs.Prelude.{◌≡◌};
 ghost use Rattle.table.specs.Rows.{row_at, reset_bytes, merged};
 
 // A reset byte, a write mask, and refused bits.
-#[derive(Drop)]
+#[derive(Clone, Copy)]
 pub struct Row(pub u8, pub u8, pub u8);
 
 // The chip number, at 0x00, is the device's to say.

@@ -1,5 +1,7 @@
 // Q-8: what the samples and the clocks of a log add to its sheet, one at a time. Once a total would not fit that is kept in mind, and the log has
 // no sheet: signed sums may come back, so each event is looked at.
+#![tactic(auto)]
+
 ghost use Rattle.std.specs.Prelude.{◌≡◌};
 ghost use Rattle.tally.specs.Tally.{no_sums, one_tally, one_sample, ranges_sampled, sums_clocked, sums_sampled};
 
@@ -8,7 +10,7 @@ use laws::both;
 use sheets::{ByAxis, ByRange, Extremes, RangesJoined, Tally, join_counts};
 
 // The clock and the tallies so far, and whether every total has fitted at every event.
-#[derive(Drop)]
+#[derive(Clone, Copy)]
 pub struct Sums {
     pub fits: bool,
     pub clock: u64,

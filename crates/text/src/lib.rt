@@ -1,5 +1,7 @@
 // What the programs print, written into a lent buffer: numbers and words, and the replay's lines, one for a record, with or without the
 // pins behind it, and the last.
+#![tactic(auto)]
+
 ghost use Rattle.std.specs.Prelude.{◌≡◌, [], ◌∷◌, ◌+◌, ◌*◌, ◌≤◌, ◌<◌, length};
 ghost use Rattle.benchlog.specs.Writer.{lacks_room};
 ghost use Rattle.text.specs.Text.{most_digits, hex_digit, hex, behind_space, decimal, front, line, longest_line, letter, letters, letters_length, line_with_pins, longest_with_pins, pins_line, pins_length, Pushed, left_in, place_after};

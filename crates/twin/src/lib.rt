@@ -1,5 +1,7 @@
 // The thin entry of 01 for the bench harness: it borrows the harness's own record and updates it for one event.
 // C calls these functions through library/entry.c, which looks at pointers first; the 4 in their names is the header's major version.
+#![tactic(auto)]
+
 ghost use Rattle.std.specs.Prelude.{◌≡◌, ℕ, List, length};
 ghost use prog.Memory.{size, align};
 ghost use Rattle.device.specs.Device.{power_up};
@@ -16,7 +18,7 @@ use registers::number_of;
 
 // The harness's own record: the device in parts. C sees its first byte, the chip number.
 #[repr(C)]
-#[derive(Drop)]
+#[derive(Clone, Copy)]
 pub struct Harness {
     regs: [u8; 64],
     core: Core,
@@ -24,7 +26,7 @@ pub struct Harness {
 }
 
 // The number of an event's answer, and the core after it.
-#[derive(Drop)]
+#[derive(Clone, Copy)]
 pub struct Stepped {
     pub number: u8,
     pub core: Core,

@@ -5,7 +5,7 @@ ghost use Rattle.std.specs.Int.Signed.{lt_z};
 ghost use Rattle.window.specs.Given.{got_of, ReadInto};
 
 // What a read gave: that it failed, or how many bytes.
-#[derive(Drop)]
+#[derive(Clone, Copy)]
 pub struct Got {
     failed: bool,
     count: usize,

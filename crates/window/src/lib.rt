@@ -1,5 +1,7 @@
 // The window of a lent buffer: of the input's bytes, those that came and are not used. No contract can say what a read gives: this says
 // into what it is handed, and what is made of what it gives.
+#![tactic(auto)]
+
 mod given;
 
 ghost use Rattle.std.specs.Prelude.{false, ◌≡◌, ◌+◌, ◌≤◌, length};
@@ -12,7 +14,7 @@ use given::{Got, read_into};
 use laws::{least, move_forward};
 
 // The bytes that came and are not used stand from one place of the buffer up to another; and whether the input has ended.
-#[derive(Drop)]
+#[derive(Clone, Copy)]
 pub struct Window {
     pub from: usize,
     pub to: usize,
@@ -20,7 +22,7 @@ pub struct Window {
 }
 
 // What reading more came to: the window behind it, and whether nothing could be read.
-#[derive(Drop)]
+#[derive(Clone, Copy)]
 pub struct More {
     pub failed: bool,
     pub window: Window,

@@ -1,5 +1,7 @@
 // What the answer prints, written into a lent buffer: a line for a stretch, a sample, a range, a mode, a refused write or the totals, and
 // the last line. A line for which there may not be room is not begun.
+#![tactic(auto)]
+
 ghost use Rattle.std.specs.Prelude.{◌≡◌, ◌+◌, ◌≤◌, [], ◌∷◌, ◌++◌, length};
 ghost use Rattle.benchlog.specs.Writer.{lacks_room};
 ghost use Rattle.text.specs.Text.{most_digits, decimal, hex, Pushed, left_in, place_after};
@@ -11,7 +13,7 @@ use counts::{Account, Counts, Doubt, Why};
 use text::{put_in_hex, put_number, put_word};
 
 // A line, or none.
-#[derive(Drop)]
+#[derive(Clone, Copy)]
 pub enum Line {
     Nothing,
     // what is known at the end of the stretch before, before its last record and behind it, and why it ended
