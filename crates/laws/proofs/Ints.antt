@@ -64,11 +64,11 @@ not-below (negsuc n) e = let z : ◌≡◌ {A = ℕ} 0 1 = cc in absurd (omega a
 
 -- a number of 16 bits that a field holds
 pub same-in-16-bits : (z : ℤ) → mag z < 32768 → to_z w16 (of_z w16 z) ≡ z
-same-in-16-bits z h = to_z-of_z (record { sfits = h })
+same-in-16-bits z h = to_z-of_z {w = w16} (record { sfits = h })
 
 -- a number of 16 bits, taken to 32
 pub wide : {z : ℤ} → SFits w16 z → to_z w32 (of_z w32 (to_z w16 (of_z w16 z))) ≡ z
-wide h = rw (to_z-of_z h) (to_z-of_z (sfits_widen tt h))
+wide h = rw (to_z-of_z {w = w16} h) (to_z-of_z {w = w32} (sfits_widen {w = w16} {w' = w32} tt h))
 
 -- the difference of two numbers of 16 bits, in 32, and what is left of it when it is turned
 module _ {a b : ℤ} (ha : SFits w16 a) (hb : SFits w16 b) where
