@@ -8,14 +8,14 @@ use Rattle.arguments.specs.contracts.wanted_of as wanted-of
 use Rattle.arguments.specs.contracts.pins_of as pins-of
 use Rattle.arguments.specs.contracts.sheet_of as sheet-of
 
-pub number-of-settled : Settled number_of_lem.ended (λ M. number_of_lem.clauses) (λ M. number_of_lem.spec)
+pub number-of-settled : Settled number_of_lem.ended (λ M 𝓤. number_of_lem.clauses) (λ M 𝓤. number_of_lem.spec)
 number-of-settled = settles (λ κs a r r' s s' p q. (meet p q, refl))
 
-pub wanted-of-settled : Settled wanted-of.ended (λ M. wanted-of.clauses) (λ M. wanted-of.spec)
+pub wanted-of-settled : Settled wanted-of.ended (λ M 𝓤. wanted-of.clauses) (λ M 𝓤. wanted-of.spec)
 wanted-of-settled = settles (λ κs a r r' s s' p q. (meet p q, refl))
 
-pub pins-of-settled : Settled pins-of.ended (λ M. pins-of.clauses) (λ M. pins-of.spec)
+pub pins-of-settled : Settled pins-of.ended (λ M 𝓤. pins-of.clauses) (λ M 𝓤. pins-of.spec)
 pins-of-settled = settles (λ κs a r r' s s' p q. (meet p q, refl))
 
-pub sheet-of-settled : Settled sheet-of.ended (λ M. sheet-of.clauses) (λ M. sheet-of.spec)
+pub sheet-of-settled : Settled sheet-of.ended (λ M 𝓤. sheet-of.clauses) (λ M 𝓤. sheet-of.spec)
 sheet-of-settled = settles (λ κs a r r' s s' p q. (meet p q, refl))

@@ -18,44 +18,44 @@ use Rattle.counts.specs.contracts.Account.has_range_of as has-range-of
 use Rattle.counts.specs.contracts.Account.has_mode_of as has-mode-of
 use Rattle.counts.specs.contracts.back_of as back-of
 
-pub plus-settled : Settled plus.ended (λ M. plus.clauses) (λ M. plus.spec)
+pub plus-settled : Settled plus.ended (λ M 𝓤. plus.clauses) (λ M 𝓤. plus.spec)
 plus-settled = settles (λ κs a r r' s s' p q. (meet p q, refl))
 
-pub less-by-settled : Settled less_by.ended (λ M. less_by.clauses) (λ M. less_by.spec)
+pub less-by-settled : Settled less_by.ended (λ M 𝓤. less_by.clauses) (λ M 𝓤. less_by.spec)
 less-by-settled = settles (λ κs a r r' s s' p q. (meet p q, refl))
 
-pub ends-stretch-settled : Settled ends-stretch.ended (λ M. ends-stretch.clauses) (λ M. ends-stretch.spec)
+pub ends-stretch-settled : Settled ends-stretch.ended (λ M 𝓤. ends-stretch.clauses) (λ M 𝓤. ends-stretch.spec)
 ends-stretch-settled = settles (λ κs a r r' s s' p q. (meet p q, refl))
 
-pub none-settled : Settled none.ended (λ M. none.clauses) (λ M. none.spec)
+pub none-settled : Settled none.ended (λ M 𝓤. none.clauses) (λ M 𝓤. none.spec)
 none-settled = settles (λ κs a r r' s s' p q. (meet p q, refl))
 
-pub since-settled : Settled since.ended (λ M. since.clauses) (λ M. since.spec)
+pub since-settled : Settled since.ended (λ M 𝓤. since.clauses) (λ M 𝓤. since.spec)
 since-settled = settles (λ κs a r r' s s' p q. (meet p q, refl))
 
-pub with-left-settled : Settled with-left.ended (λ M. with-left.clauses) (λ M. with-left.spec)
+pub with-left-settled : Settled with-left.ended (λ M 𝓤. with-left.clauses) (λ M 𝓤. with-left.spec)
 with-left-settled = settles (λ κs a r r' s s' p q. (meet p q, refl))
 
-pub with-arrived-settled : Settled with-arrived.ended (λ M. with-arrived.clauses) (λ M. with-arrived.spec)
+pub with-arrived-settled : Settled with-arrived.ended (λ M 𝓤. with-arrived.clauses) (λ M 𝓤. with-arrived.spec)
 with-arrived-settled = settles (λ κs a r r' s s' p q. (meet p q, refl))
 
-pub first-settled : Settled first.ended (λ M. first.clauses) (λ M. first.spec)
+pub first-settled : Settled first.ended (λ M 𝓤. first.clauses) (λ M 𝓤. first.spec)
 first-settled = settles (λ κs a r r' s s' p q. (meet p q, refl))
 
-pub moved-settled : Settled moved.ended (λ M. moved.clauses) (λ M. moved.spec)
+pub moved-settled : Settled moved.ended (λ M 𝓤. moved.clauses) (λ M 𝓤. moved.spec)
 moved-settled = settles (λ κs a r r' s s' p q. (meet p q, refl))
 
-pub with-readouts-settled : Settled with-readouts.ended (λ M. with-readouts.clauses) (λ M. with-readouts.spec)
+pub with-readouts-settled : Settled with-readouts.ended (λ M 𝓤. with-readouts.clauses) (λ M 𝓤. with-readouts.spec)
 with-readouts-settled = settles (λ κs a r r' s s' p q. (meet p q, refl))
 
-pub no-doubts-settled : Settled no-doubts.ended (λ M. no-doubts.clauses) (λ M. no-doubts.spec)
+pub no-doubts-settled : Settled no-doubts.ended (λ M 𝓤. no-doubts.clauses) (λ M 𝓤. no-doubts.spec)
 no-doubts-settled = settles (λ κs a r r' s s' p q. (meet p q, refl))
 
-pub has-range-of-settled : Settled has-range-of.ended (λ M. has-range-of.clauses) (λ M. has-range-of.spec)
+pub has-range-of-settled : Settled has-range-of.ended (λ M 𝓤. has-range-of.clauses) (λ M 𝓤. has-range-of.spec)
 has-range-of-settled = settles (λ κs a r r' s s' p q. (meet p q, refl))
 
-pub has-mode-of-settled : Settled has-mode-of.ended (λ M. has-mode-of.clauses) (λ M. has-mode-of.spec)
+pub has-mode-of-settled : Settled has-mode-of.ended (λ M 𝓤. has-mode-of.clauses) (λ M 𝓤. has-mode-of.spec)
 has-mode-of-settled = settles (λ κs a r r' s s' p q. (meet p q, refl))
 
-pub back-of-settled : Settled back-of.ended (λ M. back-of.clauses) (λ M. back-of.spec)
+pub back-of-settled : Settled back-of.ended (λ M 𝓤. back-of.clauses) (λ M 𝓤. back-of.spec)
 back-of-settled = settles (λ κs a r r' s s' p q. (meet p q, refl))

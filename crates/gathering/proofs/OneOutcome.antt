@@ -8,14 +8,14 @@ use Rattle.gathering.specs.contracts.with_sheet as with-sheet
 use Rattle.gathering.specs.contracts.worse as worse
 use Rattle.gathering.specs.contracts.status_of as status-of
 
-pub with-log-settled : Settled with-log.ended (λ M. with-log.clauses) (λ M. with-log.spec)
+pub with-log-settled : Settled with-log.ended (λ M 𝓤. with-log.clauses) (λ M 𝓤. with-log.spec)
 with-log-settled = settles (λ κs a r r' s s' p q. (meet p q, refl))
 
-pub with-sheet-settled : Settled with-sheet.ended (λ M. with-sheet.clauses) (λ M. with-sheet.spec)
+pub with-sheet-settled : Settled with-sheet.ended (λ M 𝓤. with-sheet.clauses) (λ M 𝓤. with-sheet.spec)
 with-sheet-settled = settles (λ κs a r r' s s' p q. (meet p q, refl))
 
-pub worse-settled : Settled worse.ended (λ M. worse.clauses) (λ M. worse.spec)
+pub worse-settled : Settled worse.ended (λ M 𝓤. worse.clauses) (λ M 𝓤. worse.spec)
 worse-settled = settles (λ κs a r r' s s' p q. (meet p q, refl))
 
-pub status-of-settled : Settled status-of.ended (λ M. status-of.clauses) (λ M. status-of.spec)
+pub status-of-settled : Settled status-of.ended (λ M 𝓤. status-of.clauses) (λ M 𝓤. status-of.spec)
 status-of-settled = settles (λ κs a r r' s s' p q. (meet p q, refl))

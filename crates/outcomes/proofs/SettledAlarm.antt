@@ -10,20 +10,20 @@ use Rattle.alarm.specs.contracts.Alarm.is_set as is_set
 use Rattle.alarm.specs.contracts.Alarm.marks as marks
 use Rattle.outcomes.proofs.Plain.{plain}
 
-off-settled : Settled off.ended (λ M. off.clauses) (λ M. off.spec)
+off-settled : Settled off.ended (λ M 𝓤. off.clauses) (λ M 𝓤. off.spec)
 off-settled = plain (λ κs a s s'. refl)
 
-raise-settled : Settled raise.ended (λ M. raise.clauses) (λ M. raise.spec)
+raise-settled : Settled raise.ended (λ M 𝓤. raise.clauses) (λ M 𝓤. raise.spec)
 raise-settled = plain (λ κs a s s'. refl)
 
-clear-settled : Settled clear.ended (λ M. clear.clauses) (λ M. clear.spec)
+clear-settled : Settled clear.ended (λ M 𝓤. clear.clauses) (λ M 𝓤. clear.spec)
 clear-settled = plain (λ κs a s s'. refl)
 
-clock-settled : Settled clock.ended (λ M. clock.clauses) (λ M. clock.spec)
+clock-settled : Settled clock.ended (λ M 𝓤. clock.clauses) (λ M 𝓤. clock.spec)
 clock-settled = plain (λ κs a s s'. refl)
 
-is-set-settled : Settled is_set.ended (λ M. is_set.clauses) (λ M. is_set.spec)
+is-set-settled : Settled is_set.ended (λ M 𝓤. is_set.clauses) (λ M 𝓤. is_set.spec)
 is-set-settled = plain (λ κs a s s'. refl)
 
-marks-settled : Settled marks.ended (λ M. marks.clauses) (λ M. marks.spec)
+marks-settled : Settled marks.ended (λ M 𝓤. marks.clauses) (λ M 𝓤. marks.spec)
 marks-settled = plain (λ κs a s s'. refl)

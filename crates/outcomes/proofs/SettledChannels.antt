@@ -20,50 +20,50 @@ use Rattle.channels.specs.contracts.Channels.byte as byte
 use Rattle.channels.specs.contracts.Channels.after_read as after_read
 use Rattle.outcomes.proofs.Plain.{plain}
 
-in-range-settled : Settled in-range.ended (λ M. in-range.clauses) (λ M. in-range.spec)
+in-range-settled : Settled in-range.ended (λ M 𝓤. in-range.clauses) (λ M 𝓤. in-range.spec)
 in-range-settled = plain (λ κs a s s'. refl)
 
-code-of-settled : Settled code_of_lem.ended (λ M. code_of_lem.clauses) (λ M. code_of_lem.spec)
+code-of-settled : Settled code_of_lem.ended (λ M 𝓤. code_of_lem.clauses) (λ M 𝓤. code_of_lem.spec)
 code-of-settled = plain (λ κs a s s'. refl)
 
-codes-of-settled : Settled codes-of.ended (λ M. codes-of.clauses) (λ M. codes-of.spec)
+codes-of-settled : Settled codes-of.ended (λ M 𝓤. codes-of.clauses) (λ M 𝓤. codes-of.spec)
 codes-of-settled = plain (λ κs a s s'. refl)
 
-lsb-of-settled : Settled lsb-of.ended (λ M. lsb-of.clauses) (λ M. lsb-of.spec)
+lsb-of-settled : Settled lsb-of.ended (λ M 𝓤. lsb-of.clauses) (λ M 𝓤. lsb-of.spec)
 lsb-of-settled = plain (λ κs a s s'. refl)
 
-msb-of-settled : Settled msb-of.ended (λ M. msb-of.clauses) (λ M. msb-of.spec)
+msb-of-settled : Settled msb-of.ended (λ M 𝓤. msb-of.clauses) (λ M 𝓤. msb-of.spec)
 msb-of-settled = plain (λ κs a s s'. refl)
 
-channel-empty-settled : Settled channel-empty.ended (λ M. channel-empty.clauses) (λ M. channel-empty.spec)
+channel-empty-settled : Settled channel-empty.ended (λ M 𝓤. channel-empty.clauses) (λ M 𝓤. channel-empty.spec)
 channel-empty-settled = plain (λ κs a s s'. refl)
 
-channel-sample-settled : Settled channel-sample.ended (λ M. channel-sample.clauses) (λ M. channel-sample.spec)
+channel-sample-settled : Settled channel-sample.ended (λ M 𝓤. channel-sample.clauses) (λ M 𝓤. channel-sample.spec)
 channel-sample-settled = plain (λ κs a s s'. refl)
 
-lsb-settled : Settled lsb.ended (λ M. lsb.clauses) (λ M. lsb.spec)
+lsb-settled : Settled lsb.ended (λ M 𝓤. lsb.clauses) (λ M 𝓤. lsb.spec)
 lsb-settled = plain (λ κs a s s'. refl)
 
-msb-settled : Settled msb.ended (λ M. msb.clauses) (λ M. msb.spec)
+msb-settled : Settled msb.ended (λ M 𝓤. msb.clauses) (λ M 𝓤. msb.spec)
 msb-settled = plain (λ κs a s s'. refl)
 
-after-lsb-settled : Settled after-lsb.ended (λ M. after-lsb.clauses) (λ M. after-lsb.spec)
+after-lsb-settled : Settled after-lsb.ended (λ M 𝓤. after-lsb.clauses) (λ M 𝓤. after-lsb.spec)
 after-lsb-settled = plain (λ κs a s s'. refl)
 
-unlock-settled : Settled unlock.ended (λ M. unlock.clauses) (λ M. unlock.spec)
+unlock-settled : Settled unlock.ended (λ M 𝓤. unlock.clauses) (λ M 𝓤. unlock.spec)
 unlock-settled = plain (λ κs a s s'. refl)
 
-channels-empty-settled : Settled channels-empty.ended (λ M. channels-empty.clauses) (λ M. channels-empty.spec)
+channels-empty-settled : Settled channels-empty.ended (λ M 𝓤. channels-empty.clauses) (λ M 𝓤. channels-empty.spec)
 channels-empty-settled = plain (λ κs a s s'. refl)
 
-channels-sample-settled : Settled channels-sample.ended (λ M. channels-sample.clauses) (λ M. channels-sample.spec)
+channels-sample-settled : Settled channels-sample.ended (λ M 𝓤. channels-sample.clauses) (λ M 𝓤. channels-sample.spec)
 channels-sample-settled = plain (λ κs a s s'. refl)
 
-release-settled : Settled release.ended (λ M. release.clauses) (λ M. release.spec)
+release-settled : Settled release.ended (λ M 𝓤. release.clauses) (λ M 𝓤. release.spec)
 release-settled = plain (λ κs a s s'. refl)
 
-byte-settled : Settled byte.ended (λ M. byte.clauses) (λ M. byte.spec)
+byte-settled : Settled byte.ended (λ M 𝓤. byte.clauses) (λ M 𝓤. byte.spec)
 byte-settled = plain (λ κs a s s'. refl)
 
-after-read-settled : Settled after_read.ended (λ M. after_read.clauses) (λ M. after_read.spec)
+after-read-settled : Settled after_read.ended (λ M 𝓤. after_read.clauses) (λ M 𝓤. after_read.spec)
 after-read-settled = plain (λ κs a s s'. refl)

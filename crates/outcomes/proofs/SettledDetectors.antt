@@ -9,17 +9,17 @@ use Rattle.detectors.specs.contracts.Detectors.clock as clock
 use Rattle.detectors.specs.contracts.Detectors.after_write as after_write
 use Rattle.outcomes.proofs.Plain.{plain}
 
-quiet-settled : Settled quiet.ended (λ M. quiet.clauses) (λ M. quiet.spec)
+quiet-settled : Settled quiet.ended (λ M 𝓤. quiet.clauses) (λ M 𝓤. quiet.spec)
 quiet-settled = plain (λ κs a s s'. refl)
 
-alarms-settled : Settled alarms.ended (λ M. alarms.clauses) (λ M. alarms.spec)
+alarms-settled : Settled alarms.ended (λ M 𝓤. alarms.clauses) (λ M 𝓤. alarms.spec)
 alarms-settled = plain (λ κs a s s'. refl)
 
-sample-settled : Settled sample.ended (λ M. sample.clauses) (λ M. sample.spec)
+sample-settled : Settled sample.ended (λ M 𝓤. sample.clauses) (λ M 𝓤. sample.spec)
 sample-settled = plain (λ κs a s s'. refl)
 
-clock-settled : Settled clock.ended (λ M. clock.clauses) (λ M. clock.spec)
+clock-settled : Settled clock.ended (λ M 𝓤. clock.clauses) (λ M 𝓤. clock.spec)
 clock-settled = plain (λ κs a s s'. refl)
 
-after-write-settled : Settled after_write.ended (λ M. after_write.clauses) (λ M. after_write.spec)
+after-write-settled : Settled after_write.ended (λ M 𝓤. after_write.clauses) (λ M 𝓤. after_write.spec)
 after-write-settled = plain (λ κs a s s'. refl)

@@ -17,35 +17,35 @@ use Rattle.fifo.specs.contracts.Fifo.readout as readout
 use Rattle.fifo.specs.contracts.Fifo.emptied_when as emptied-when
 use Rattle.outcomes.proofs.Plain.{plain}
 
-size-of-settled : Settled type_size.ended (λ M. type_size.clauses) (λ M. type_size.spec)
+size-of-settled : Settled type_size.ended (λ M 𝓤. type_size.clauses) (λ M 𝓤. type_size.spec)
 size-of-settled = plain (λ κs a s s'. refl)
 
-depth-in-settled : Settled depth-in.ended (λ M. depth-in.clauses) (λ M. depth-in.spec)
+depth-in-settled : Settled depth-in.ended (λ M 𝓤. depth-in.clauses) (λ M 𝓤. depth-in.spec)
 depth-in-settled = plain (λ κs a s s'. refl)
 
-drops-in-settled : Settled drops-in.ended (λ M. drops-in.clauses) (λ M. drops-in.spec)
+drops-in-settled : Settled drops-in.ended (λ M 𝓤. drops-in.clauses) (λ M 𝓤. drops-in.spec)
 drops-in-settled = plain (λ κs a s s'. refl)
 
-setting-of-settled : Settled setting-of.ended (λ M. setting-of.clauses) (λ M. setting-of.spec)
+setting-of-settled : Settled setting-of.ended (λ M 𝓤. setting-of.clauses) (λ M 𝓤. setting-of.spec)
 setting-of-settled = plain (λ κs a s s'. refl)
 
-no-frames-settled : Settled no_frames.ended (λ M. no_frames.clauses) (λ M. no_frames.spec)
+no-frames-settled : Settled no_frames.ended (λ M 𝓤. no_frames.clauses) (λ M 𝓤. no_frames.spec)
 no-frames-settled = plain (λ κs a s s'. refl)
 
-empty-settled : Settled empty.ended (λ M. empty.clauses) (λ M. empty.spec)
+empty-settled : Settled empty.ended (λ M 𝓤. empty.clauses) (λ M 𝓤. empty.spec)
 empty-settled = plain (λ κs a s s'. refl)
 
-count-settled : Settled count.ended (λ M. count.clauses) (λ M. count.spec)
+count-settled : Settled count.ended (λ M 𝓤. count.clauses) (λ M 𝓤. count.spec)
 count-settled = plain (λ κs a s s'. refl)
 
-status-settled : Settled status.ended (λ M. status.clauses) (λ M. status.spec)
+status-settled : Settled status.ended (λ M 𝓤. status.clauses) (λ M 𝓤. status.spec)
 status-settled = plain (λ κs a s s'. refl)
 
-push-settled : Settled push.ended (λ M. push.clauses) (λ M. push.spec)
+push-settled : Settled push.ended (λ M 𝓤. push.clauses) (λ M 𝓤. push.spec)
 push-settled = settles (λ κs a r r' s s' p q. let e = meet p q in ((λ i. numbers_of (e i)), λ i. (tt, ((e i).bytes, (tt, (tt, (tt, (tt, tt))))))))
 
-readout-settled : Settled readout.ended (λ M. readout.clauses) (λ M. readout.spec)
+readout-settled : Settled readout.ended (λ M 𝓤. readout.clauses) (λ M 𝓤. readout.spec)
 readout-settled = settles (λ κs a r r' s s' p q. let e = meet p.0 q.0 in ((λ i. numbers_of (e i)), λ i. (tt, ((e i).bytes, (tt, (tt, (meet p.1 q.1 i, tt)))))))
 
-emptied-when-settled : Settled emptied-when.ended (λ M. emptied-when.clauses) (λ M. emptied-when.spec)
+emptied-when-settled : Settled emptied-when.ended (λ M 𝓤. emptied-when.clauses) (λ M 𝓤. emptied-when.spec)
 emptied-when-settled = settles (λ κs a r r' s s' p q. let e = meet p q in ((λ i. numbers_of (e i)), λ i. (tt, ((e i).bytes, (tt, tt)))))

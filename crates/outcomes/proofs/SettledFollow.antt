@@ -7,11 +7,11 @@ use Rattle.follow.specs.contracts.seek as seek
 use Rattle.follow.specs.contracts.halt_of as halt-of
 use Rattle.outcomes.proofs.Plain.{plain}
 
-open-log-settled : Settled open-log.ended (λ M. open-log.clauses) (λ M. open-log.spec)
+open-log-settled : Settled open-log.ended (λ M 𝓤. open-log.clauses) (λ M 𝓤. open-log.spec)
 open-log-settled = plain (λ κs a s s'. refl)
 
-seek-settled : Settled seek.ended (λ M. seek.clauses) (λ M. seek.spec)
+seek-settled : Settled seek.ended (λ M 𝓤. seek.clauses) (λ M 𝓤. seek.spec)
 seek-settled = plain (λ κs a s s'. refl)
 
-halt-of-settled : Settled halt-of.ended (λ M. halt-of.clauses) (λ M. halt-of.spec)
+halt-of-settled : Settled halt-of.ended (λ M 𝓤. halt-of.clauses) (λ M 𝓤. halt-of.spec)
 halt-of-settled = plain (λ κs a s s'. refl)

@@ -8,14 +8,14 @@ use Rattle.interrupts.specs.contracts.data_byte as data-byte
 use Rattle.interrupts.specs.contracts.pin_level as pin_level
 use Rattle.outcomes.proofs.Plain.{plain}
 
-statuses-of-settled : Settled statuses-of.ended (λ M. statuses-of.clauses) (λ M. statuses-of.spec)
+statuses-of-settled : Settled statuses-of.ended (λ M 𝓤. statuses-of.clauses) (λ M 𝓤. statuses-of.spec)
 statuses-of-settled = plain (λ κs a s s'. refl)
 
-detector-byte-settled : Settled detector-byte.ended (λ M. detector-byte.clauses) (λ M. detector-byte.spec)
+detector-byte-settled : Settled detector-byte.ended (λ M 𝓤. detector-byte.clauses) (λ M 𝓤. detector-byte.spec)
 detector-byte-settled = plain (λ κs a s s'. refl)
 
-data-byte-settled : Settled data-byte.ended (λ M. data-byte.clauses) (λ M. data-byte.spec)
+data-byte-settled : Settled data-byte.ended (λ M 𝓤. data-byte.clauses) (λ M 𝓤. data-byte.spec)
 data-byte-settled = plain (λ κs a s s'. refl)
 
-pin-level-settled : Settled pin_level.ended (λ M. pin_level.clauses) (λ M. pin_level.spec)
+pin-level-settled : Settled pin_level.ended (λ M 𝓤. pin_level.clauses) (λ M 𝓤. pin_level.spec)
 pin-level-settled = plain (λ κs a s s'. refl)

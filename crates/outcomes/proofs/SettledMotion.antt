@@ -11,23 +11,23 @@ use Rattle.motion.specs.contracts.Motion.sample as sample
 use Rattle.motion.specs.contracts.Motion.clock as clock
 use Rattle.outcomes.proofs.Plain.{plain}
 
-points-needed-settled : Settled points-needed.ended (λ M. points-needed.clauses) (λ M. points-needed.spec)
+points-needed-settled : Settled points-needed.ended (λ M 𝓤. points-needed.clauses) (λ M 𝓤. points-needed.spec)
 points-needed-settled = plain (λ κs a s s'. refl)
 
-quiet-settled : Settled quiet.ended (λ M. quiet.clauses) (λ M. quiet.spec)
+quiet-settled : Settled quiet.ended (λ M 𝓤. quiet.clauses) (λ M 𝓤. quiet.spec)
 quiet-settled = plain (λ κs a s s'. refl)
 
-alarm-settled : Settled alarm.ended (λ M. alarm.clauses) (λ M. alarm.spec)
+alarm-settled : Settled alarm.ended (λ M 𝓤. alarm.clauses) (λ M 𝓤. alarm.spec)
 alarm-settled = plain (λ κs a s s'. refl)
 
-with-alarm-settled : Settled with-alarm.ended (λ M. with-alarm.clauses) (λ M. with-alarm.spec)
+with-alarm-settled : Settled with-alarm.ended (λ M 𝓤. with-alarm.clauses) (λ M 𝓤. with-alarm.spec)
 with-alarm-settled = plain (λ κs a s s'. refl)
 
-restart-settled : Settled restart.ended (λ M. restart.clauses) (λ M. restart.spec)
+restart-settled : Settled restart.ended (λ M 𝓤. restart.clauses) (λ M 𝓤. restart.spec)
 restart-settled = plain (λ κs a s s'. refl)
 
-sample-settled : Settled sample.ended (λ M. sample.clauses) (λ M. sample.spec)
+sample-settled : Settled sample.ended (λ M 𝓤. sample.clauses) (λ M 𝓤. sample.spec)
 sample-settled = plain (λ κs a s s'. refl)
 
-clock-settled : Settled clock.ended (λ M. clock.clauses) (λ M. clock.spec)
+clock-settled : Settled clock.ended (λ M 𝓤. clock.clauses) (λ M 𝓤. clock.spec)
 clock-settled = plain (λ κs a s s'. refl)

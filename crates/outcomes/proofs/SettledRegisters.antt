@@ -8,14 +8,14 @@ use Rattle.registers.specs.contracts.read_answer as read_answer
 use Rattle.registers.specs.contracts.judge_write as judge-write
 use Rattle.outcomes.proofs.Plain.{plain}
 
-number-of-settled : Settled number_of_lem.ended (λ M. number_of_lem.clauses) (λ M. number_of_lem.spec)
+number-of-settled : Settled number_of_lem.ended (λ M 𝓤. number_of_lem.clauses) (λ M 𝓤. number_of_lem.spec)
 number-of-settled = plain (λ κs a s s'. refl)
 
-is-accepted-settled : Settled is-accepted.ended (λ M. is-accepted.clauses) (λ M. is-accepted.spec)
+is-accepted-settled : Settled is-accepted.ended (λ M 𝓤. is-accepted.clauses) (λ M 𝓤. is-accepted.spec)
 is-accepted-settled = plain (λ κs a s s'. refl)
 
-read-answer-settled : Settled read_answer.ended (λ M. read_answer.clauses) (λ M. read_answer.spec)
+read-answer-settled : Settled read_answer.ended (λ M 𝓤. read_answer.clauses) (λ M 𝓤. read_answer.spec)
 read-answer-settled = plain (λ κs a s s'. refl)
 
-judge-write-settled : Settled judge-write.ended (λ M. judge-write.clauses) (λ M. judge-write.spec)
+judge-write-settled : Settled judge-write.ended (λ M 𝓤. judge-write.clauses) (λ M 𝓤. judge-write.spec)
 judge-write-settled = plain (λ κs a s s'. refl)

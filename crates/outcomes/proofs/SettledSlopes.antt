@@ -16,38 +16,38 @@ use Rattle.slopes.specs.contracts.Runs.reached_over as reached-over
 use Rattle.slopes.specs.contracts.Runs.reached_calm as reached-calm
 use Rattle.outcomes.proofs.Plain.{plain}
 
-slope-between-settled : Settled slope-between.ended (λ M. slope-between.clauses) (λ M. slope-between.spec)
+slope-between-settled : Settled slope-between.ended (λ M 𝓤. slope-between.clauses) (λ M 𝓤. slope-between.spec)
 slope-between-settled = plain (λ κs a s s'. refl)
 
-previous-none-settled : Settled previous-none.ended (λ M. previous-none.clauses) (λ M. previous-none.spec)
+previous-none-settled : Settled previous-none.ended (λ M 𝓤. previous-none.clauses) (λ M 𝓤. previous-none.spec)
 previous-none-settled = plain (λ κs a s s'. refl)
 
-remember-settled : Settled remember.ended (λ M. remember.clauses) (λ M. remember.spec)
+remember-settled : Settled remember.ended (λ M 𝓤. remember.clauses) (λ M 𝓤. remember.spec)
 remember-settled = plain (λ κs a s s'. refl)
 
-forget-settled : Settled forget.ended (λ M. forget.clauses) (λ M. forget.spec)
+forget-settled : Settled forget.ended (λ M 𝓤. forget.clauses) (λ M 𝓤. forget.spec)
 forget-settled = plain (λ κs a s s'. refl)
 
-slopes-to-settled : Settled slopes-to.ended (λ M. slopes-to.clauses) (λ M. slopes-to.spec)
+slopes-to-settled : Settled slopes-to.ended (λ M 𝓤. slopes-to.clauses) (λ M 𝓤. slopes-to.spec)
 slopes-to-settled = plain (λ κs a s s'. refl)
 
-no-axis-settled : Settled no-axis.ended (λ M. no-axis.clauses) (λ M. no-axis.spec)
+no-axis-settled : Settled no-axis.ended (λ M 𝓤. no-axis.clauses) (λ M 𝓤. no-axis.spec)
 no-axis-settled = plain (λ κs a s s'. refl)
 
-judge-settled : Settled judge.ended (λ M. judge.clauses) (λ M. judge.spec)
+judge-settled : Settled judge.ended (λ M 𝓤. judge.clauses) (λ M 𝓤. judge.spec)
 judge-settled = plain (λ κs a s s'. refl)
 
 runs-none-settled : Settled Runs-none.ended (λ M. Runs-none.clauses) (λ M. Runs-none.spec)
 runs-none-settled = plain (λ κs a s s'. refl)
 
-after-over-settled : Settled after-over.ended (λ M. after-over.clauses) (λ M. after-over.spec)
+after-over-settled : Settled after-over.ended (λ M 𝓤. after-over.clauses) (λ M 𝓤. after-over.spec)
 after-over-settled = plain (λ κs a s s'. refl)
 
-after-calm-settled : Settled after-calm.ended (λ M. after-calm.clauses) (λ M. after-calm.spec)
+after-calm-settled : Settled after-calm.ended (λ M 𝓤. after-calm.clauses) (λ M 𝓤. after-calm.spec)
 after-calm-settled = plain (λ κs a s s'. refl)
 
-reached-over-settled : Settled reached-over.ended (λ M. reached-over.clauses) (λ M. reached-over.spec)
+reached-over-settled : Settled reached-over.ended (λ M 𝓤. reached-over.clauses) (λ M 𝓤. reached-over.spec)
 reached-over-settled = plain (λ κs a s s'. refl)
 
-reached-calm-settled : Settled reached-calm.ended (λ M. reached-calm.clauses) (λ M. reached-calm.spec)
+reached-calm-settled : Settled reached-calm.ended (λ M 𝓤. reached-calm.clauses) (λ M 𝓤. reached-calm.spec)
 reached-calm-settled = plain (λ κs a s s'. refl)

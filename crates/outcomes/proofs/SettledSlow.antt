@@ -9,17 +9,17 @@ use Rattle.slow.specs.contracts.Slow.clock as clock
 use Rattle.slow.specs.contracts.Slow.sample as sample
 use Rattle.outcomes.proofs.Plain.{plain}
 
-quiet-settled : Settled quiet.ended (λ M. quiet.clauses) (λ M. quiet.spec)
+quiet-settled : Settled quiet.ended (λ M 𝓤. quiet.clauses) (λ M 𝓤. quiet.spec)
 quiet-settled = plain (λ κs a s s'. refl)
 
-alarm-settled : Settled alarm.ended (λ M. alarm.clauses) (λ M. alarm.spec)
+alarm-settled : Settled alarm.ended (λ M 𝓤. alarm.clauses) (λ M 𝓤. alarm.spec)
 alarm-settled = plain (λ κs a s s'. refl)
 
-restart-settled : Settled restart.ended (λ M. restart.clauses) (λ M. restart.spec)
+restart-settled : Settled restart.ended (λ M 𝓤. restart.clauses) (λ M 𝓤. restart.spec)
 restart-settled = plain (λ κs a s s'. refl)
 
-clock-settled : Settled clock.ended (λ M. clock.clauses) (λ M. clock.spec)
+clock-settled : Settled clock.ended (λ M 𝓤. clock.clauses) (λ M 𝓤. clock.spec)
 clock-settled = plain (λ κs a s s'. refl)
 
-sample-settled : Settled sample.ended (λ M. sample.clauses) (λ M. sample.spec)
+sample-settled : Settled sample.ended (λ M 𝓤. sample.clauses) (λ M 𝓤. sample.spec)
 sample-settled = plain (λ κs a s s'. refl)

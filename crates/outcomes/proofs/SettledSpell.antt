@@ -13,29 +13,29 @@ use Rattle.spell.specs.contracts.Spell.clock as clock
 use Rattle.spell.specs.contracts.Spell.sample as sample
 use Rattle.outcomes.proofs.Plain.{plain}
 
-stopped-settled : Settled stopped.ended (λ M. stopped.clauses) (λ M. stopped.spec)
+stopped-settled : Settled stopped.ended (λ M 𝓤. stopped.clauses) (λ M 𝓤. stopped.spec)
 stopped-settled = plain (λ κs a s s'. refl)
 
-started-settled : Settled started.ended (λ M. started.clauses) (λ M. started.spec)
+started-settled : Settled started.ended (λ M 𝓤. started.clauses) (λ M 𝓤. started.spec)
 started-settled = plain (λ κs a s s'. refl)
 
-stopwatch-clock-settled : Settled stopwatch-clock.ended (λ M. stopwatch-clock.clauses) (λ M. stopwatch-clock.spec)
+stopwatch-clock-settled : Settled stopwatch-clock.ended (λ M 𝓤. stopwatch-clock.clauses) (λ M 𝓤. stopwatch-clock.spec)
 stopwatch-clock-settled = plain (λ κs a s s'. refl)
 
 going-on-settled : Settled Going-on.ended (λ M. Going-on.clauses) (λ M. Going-on.spec)
 going-on-settled = plain (λ κs a s s'. refl)
 
-has-reached-settled : Settled has-reached.ended (λ M. has-reached.clauses) (λ M. has-reached.spec)
+has-reached-settled : Settled has-reached.ended (λ M 𝓤. has-reached.clauses) (λ M 𝓤. has-reached.spec)
 has-reached-settled = plain (λ κs a s s'. refl)
 
-quiet-settled : Settled quiet.ended (λ M. quiet.clauses) (λ M. quiet.spec)
+quiet-settled : Settled quiet.ended (λ M 𝓤. quiet.clauses) (λ M 𝓤. quiet.spec)
 quiet-settled = plain (λ κs a s s'. refl)
 
-restart-settled : Settled restart.ended (λ M. restart.clauses) (λ M. restart.spec)
+restart-settled : Settled restart.ended (λ M 𝓤. restart.clauses) (λ M 𝓤. restart.spec)
 restart-settled = plain (λ κs a s s'. refl)
 
-clock-settled : Settled clock.ended (λ M. clock.clauses) (λ M. clock.spec)
+clock-settled : Settled clock.ended (λ M 𝓤. clock.clauses) (λ M 𝓤. clock.spec)
 clock-settled = plain (λ κs a s s'. refl)
 
-sample-settled : Settled sample.ended (λ M. sample.clauses) (λ M. sample.spec)
+sample-settled : Settled sample.ended (λ M 𝓤. sample.clauses) (λ M 𝓤. sample.spec)
 sample-settled = plain (λ κs a s s'. refl)

@@ -7,11 +7,11 @@ use Rattle.table.specs.contracts.reset_bytes as reset-bytes
 use Rattle.table.specs.contracts.merge as merge
 use Rattle.outcomes.proofs.Plain.{plain}
 
-row-at-settled : Settled row_at.ended (λ M. row_at.clauses) (λ M. row_at.spec)
+row-at-settled : Settled row_at.ended (λ M 𝓤. row_at.clauses) (λ M 𝓤. row_at.spec)
 row-at-settled = plain (λ κs a s s'. refl)
 
-reset-bytes-settled : Settled reset-bytes.ended (λ M. reset-bytes.clauses) (λ M. reset-bytes.spec)
+reset-bytes-settled : Settled reset-bytes.ended (λ M 𝓤. reset-bytes.clauses) (λ M 𝓤. reset-bytes.spec)
 reset-bytes-settled = plain (λ κs a s s'. refl)
 
-merge-settled : Settled merge.ended (λ M. merge.clauses) (λ M. merge.spec)
+merge-settled : Settled merge.ended (λ M 𝓤. merge.clauses) (λ M 𝓤. merge.spec)
 merge-settled = plain (λ κs a s s'. refl)

@@ -6,8 +6,8 @@ use Rattle.laws.proofs.Outcome.{settles, meet}
 use Rattle.sheet.specs.contracts.handed.Printed.gathering as gathering
 use Rattle.sheet.specs.contracts.handed.Printed.status as status
 
-pub gathering-settled : Settled gathering.ended (λ M. gathering.clauses) (λ M. gathering.spec)
+pub gathering-settled : Settled gathering.ended (λ M 𝓤. gathering.clauses) (λ M 𝓤. gathering.spec)
 gathering-settled = settles (λ κs a r r' s s' p q. (meet p q, refl))
 
-pub status-settled : Settled status.ended (λ M. status.clauses) (λ M. status.spec)
+pub status-settled : Settled status.ended (λ M 𝓤. status.clauses) (λ M 𝓤. status.spec)
 status-settled = settles (λ κs a r r' s s' p q. (meet p q, refl))

@@ -6,8 +6,8 @@ use Rattle.laws.proofs.Outcome.{settles, meet}
 use Rattle.sheetfile.specs.contracts.read_month as read-month
 use Rattle.sheetfile.specs.contracts.write_month as write-month
 
-pub read-month-settled : Settled read-month.ended (λ M. read-month.clauses) (λ M. read-month.spec)
+pub read-month-settled : Settled read-month.ended (λ M 𝓤. read-month.clauses) (λ M 𝓤. read-month.spec)
 read-month-settled = settles (λ κs a r r' s s' p q. (meet p q, refl))
 
-pub write-month-settled : Settled write-month.ended (λ M. write-month.clauses) (λ M. write-month.spec)
+pub write-month-settled : Settled write-month.ended (λ M 𝓤. write-month.clauses) (λ M 𝓤. write-month.spec)
 write-month-settled = settles (λ κs a r r' s s' p q. (meet p.0 q.0, λ i. (meet p.1 q.1 i, (tt, (tt, tt)))))

@@ -4,5 +4,5 @@ use Rattle.laws.specs.Outcome.{Settled}
 use Rattle.laws.proofs.Outcome.{settles, meet}
 use Rattle.sheetlines.specs.contracts.put_month as put-month
 
-pub put-month-settled : Settled put-month.ended (λ M. put-month.clauses) (λ M. put-month.spec)
+pub put-month-settled : Settled put-month.ended (λ M 𝓤. put-month.clauses) (λ M 𝓤. put-month.spec)
 put-month-settled = settles (λ κs a r r' s s' p q. (meet p.0 q.0, λ i. (meet p.1 q.1 i, (tt, (tt, tt)))))

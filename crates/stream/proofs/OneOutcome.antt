@@ -6,8 +6,8 @@ use Rattle.laws.proofs.Outcome.{settles, meet}
 use Rattle.stream.specs.contracts.status_of as status-of
 use Rattle.stream.specs.contracts.handed.Delivered.is_whole as is_whole
 
-pub status-of-settled : Settled status-of.ended (λ M. status-of.clauses) (λ M. status-of.spec)
+pub status-of-settled : Settled status-of.ended (λ M 𝓤. status-of.clauses) (λ M 𝓤. status-of.spec)
 status-of-settled = settles (λ κs a r r' s s' p q. (meet p q, refl))
 
-pub is-whole-settled : Settled is_whole.ended (λ M. is_whole.clauses) (λ M. is_whole.spec)
+pub is-whole-settled : Settled is_whole.ended (λ M 𝓤. is_whole.clauses) (λ M 𝓤. is_whole.spec)
 is-whole-settled = settles (λ κs a r r' s s' p q. (meet p q, refl))

@@ -7,11 +7,11 @@ use Rattle.tally.specs.contracts.Sums.none as none
 use Rattle.tally.specs.contracts.Sums.clocked as clocked
 use Rattle.tally.specs.contracts.Sums.sampled as sampled
 
-pub none-settled : Settled none.ended (λ M. none.clauses) (λ M. none.spec)
+pub none-settled : Settled none.ended (λ M 𝓤. none.clauses) (λ M 𝓤. none.spec)
 none-settled = settles (λ κs a r r' s s' p q. (meet p q, refl))
 
-pub clocked-settled : Settled clocked.ended (λ M. clocked.clauses) (λ M. clocked.spec)
+pub clocked-settled : Settled clocked.ended (λ M 𝓤. clocked.clauses) (λ M 𝓤. clocked.spec)
 clocked-settled = settles (λ κs a r r' s s' p q. (meet p q, refl))
 
-pub sampled-settled : Settled sampled.ended (λ M. sampled.clauses) (λ M. sampled.spec)
+pub sampled-settled : Settled sampled.ended (λ M 𝓤. sampled.clauses) (λ M 𝓤. sampled.spec)
 sampled-settled = settles (λ κs a r r' s s' p q. (meet p q, refl))
