@@ -132,7 +132,7 @@ FNR == 1 {
 
 /^use Rattle/ {
     line = $0
-    sub(/^use Rattle·/, "", line)
+    sub(/^use Rattle\./, "", line)
     if (line ~ /specs\.declared\./) next
     if (line !~ /(\{.*\}| as [a-zA-Z]+)$/) print "! " FILENAME ": an import that tests/believed.awk cannot read: " $0
     crate = line
@@ -156,7 +156,7 @@ FNR == 1 {
         sub(/.* as /, "", word[i])
         from[word[i]] = place ": " name
         # an operator is met by what stands between its places
-        split(word[i], between, "_")
+        split(word[i], between, "◌")
         for (k in between) if (between[k] != "") from[between[k]] = from[word[i]]
         if (file in listed) named(file, place ": " name)
     }

@@ -7,7 +7,7 @@ use Rattle.codes.specs.contracts.is_reserved_range as is-reserved-range
 use Rattle.codes.specs.contracts.latch_of as latch-of
 use Rattle.codes.specs.contracts.is_unlatched as is-unlatched
 use Rattle.codes.specs.contracts.hold_of as hold-of
-use Rattle.codes.specs.contracts.mode_of as Mode-of
+use Rattle.codes.specs.contracts.mode_of as mode-of
 use Rattle.codes.specs.contracts.is_reserved_mode as is-reserved-mode
 use Rattle.codes.specs.contracts.axes_of as axes-of
 use Rattle.codes.specs.contracts.wait_code as wait-code
@@ -30,7 +30,7 @@ is-unlatched-settled = plain (λ κs a s s'. refl)
 hold-of-settled : Settled hold-of.ended (λ M 𝓤. hold-of.clauses) (λ M 𝓤. hold-of.spec)
 hold-of-settled = plain (λ κs a s s'. refl)
 
-mode-of-settled : Settled Mode-of.ended (λ M. Mode-of.clauses) (λ M. Mode-of.spec)
+mode-of-settled : Settled mode-of.ended (λ M 𝓤. mode-of.clauses) (λ M 𝓤. mode-of.spec)
 mode-of-settled = plain (λ κs a s s'. refl)
 
 is-reserved-mode-settled : Settled is-reserved-mode.ended (λ M 𝓤. is-reserved-mode.clauses) (λ M 𝓤. is-reserved-mode.spec)

@@ -9,7 +9,7 @@ use Rattle.slopes.specs.contracts.Previous.forget as forget
 use Rattle.slopes.specs.contracts.Previous.slopes_to as slopes-to
 use Rattle.slopes.specs.contracts.no_axis as no-axis
 use Rattle.slopes.specs.contracts.judge as judge
-use Rattle.slopes.specs.contracts.Runs.none as Runs-none
+use Rattle.slopes.specs.contracts.Runs.none as runs-none
 use Rattle.slopes.specs.contracts.Runs.after_over as after-over
 use Rattle.slopes.specs.contracts.Runs.after_calm as after-calm
 use Rattle.slopes.specs.contracts.Runs.reached_over as reached-over
@@ -37,7 +37,7 @@ no-axis-settled = plain (λ κs a s s'. refl)
 judge-settled : Settled judge.ended (λ M 𝓤. judge.clauses) (λ M 𝓤. judge.spec)
 judge-settled = plain (λ κs a s s'. refl)
 
-runs-none-settled : Settled Runs-none.ended (λ M. Runs-none.clauses) (λ M. Runs-none.spec)
+runs-none-settled : Settled runs-none.ended (λ M 𝓤. runs-none.clauses) (λ M 𝓤. runs-none.spec)
 runs-none-settled = plain (λ κs a s s'. refl)
 
 after-over-settled : Settled after-over.ended (λ M 𝓤. after-over.clauses) (λ M 𝓤. after-over.spec)

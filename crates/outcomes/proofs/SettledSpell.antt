@@ -5,7 +5,7 @@ use Rattle.laws.specs.Outcome.{Settled}
 use Rattle.spell.specs.contracts.Stopwatch.stopped as stopped
 use Rattle.spell.specs.contracts.Stopwatch.started as started
 use Rattle.spell.specs.contracts.Stopwatch.clock as stopwatch-clock
-use Rattle.spell.specs.contracts.Stopwatch.going_on as Going-on
+use Rattle.spell.specs.contracts.Stopwatch.going_on as going-on
 use Rattle.spell.specs.contracts.Stopwatch.has_reached as has-reached
 use Rattle.spell.specs.contracts.Spell.quiet as quiet
 use Rattle.spell.specs.contracts.Spell.restart as restart
@@ -22,7 +22,7 @@ started-settled = plain (λ κs a s s'. refl)
 stopwatch-clock-settled : Settled stopwatch-clock.ended (λ M 𝓤. stopwatch-clock.clauses) (λ M 𝓤. stopwatch-clock.spec)
 stopwatch-clock-settled = plain (λ κs a s s'. refl)
 
-going-on-settled : Settled Going-on.ended (λ M. Going-on.clauses) (λ M. Going-on.spec)
+going-on-settled : Settled going-on.ended (λ M 𝓤. going-on.clauses) (λ M 𝓤. going-on.spec)
 going-on-settled = plain (λ κs a s s'. refl)
 
 has-reached-settled : Settled has-reached.ended (λ M 𝓤. has-reached.clauses) (λ M 𝓤. has-reached.spec)
