@@ -1,15 +1,10 @@
 -- `fifo::give` meets its contract: the first bytes are put, and zeros behind them.
-use Prim.Native.Nat.{ℕ, zero, suc, ◌+◌, ◌-◌, ◌≤◌, min}
-use mathlib.Core.Path.{◌≡◌, refl, ap, sym, ◌∙◌}
-use mathlib.Core.List.{List, [], ◌∷◌, ◌++◌, append-nil}
-use native.Mathlib.Omega.{arith}
-use lib.ListN.{length, take, drop, length-drop, drop_of_length-le}
-use lib.Seq.{paste, length-paste, length-take-le, take_all, take_at, take-add, take-take, take-append-le, drop-append-le}
-use borrow.Author.Rules.{rules}
+use Rattle.std.proofs.Common.{ℕ, zero, suc, ◌+◌, ◌-◌, ◌≤◌, min, ◌≡◌, refl, ap, sym, ◌∙◌, List, [], ◌∷◌, ◌++◌, append-nil, arith, length, take, drop, length-drop, rules}
+use Rattle.std.proofs.Math.ListN.{drop_of_length-le}
+use Rattle.std.proofs.Math.Seq.{paste, length-paste, length-take-le, take_all, take_at, take-add, take-take, take-append-le, drop-append-le}
 use Rattle.laws.specs.Bytes.{zeros, first_or_zeros}
 use Rattle.laws.proofs.Bytes.{length-zeros}
-use Rattle.fifo.proofs.give.Statement.{statement}
-use Rattle.fifo.proofs.give.Tie as tie
+use Rattle.fifo.proofs.give.Goals as goal
 
 -- behind the bytes that are left there are zeros; none is left, or none is asked for
 past : (n : ℕ) (left : List ℕ) (m : ℕ) → n ≤ m → min n (length left) ≡ 0 → take n (left ++ zeros m) ≡ zeros n
@@ -47,17 +42,5 @@ module _ (s : List ℕ) (held : ℕ) (stored : held ≤ length s) where
         append-nil,
       ) (sym (first-is (length out)))
 
-pub give_spec : {M : Type 1} → statement M
-give_spec =
-    tie.close
-    (tie.spec
-    (λ c κs. tt)
-    (λ c κs. search rules)
-    (λ c. search rules)
-    (λ c κs. search rules)
-    (λ c. search rules)
-    (λ c.
-    let put = c.before.before.before.before.before.before in
-    let given = put.before.before in
-    let start = given.before.before.before in
-    rw (c.before.before.clear.ensures, put.put.ensures, given.least.ensures) (given_is start.args.s.now start.args.held start.requires start.args.out.now)))
+pub returns : goal.returns
+returns c = rw (c.clear.ensures, c.put.ensures, c.least-given.ensures) (given_is c.args.s.now c.args.held c.requires c.args.out.now)
