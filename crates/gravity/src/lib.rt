@@ -57,6 +57,7 @@ fn time_of(delay: u8) -> u32
 }
 
 // Whether each of three sizes, or where they are summed their sum, is below a limit.
+#[tactic(auto, unfolding(crate::specs::Low::are_below))]
 fn are_below(summed: bool, limit: u32, x: u32, y: u32, z: u32) -> bool
     ensures { result ≡ are_below summed limit x y z }
 {
@@ -80,6 +81,7 @@ fn shown_of(below: bool, within: bool) -> Shown
 }
 
 // What a sample shows of low-g where a count is so many 2 g counts.
+#[tactic(auto, unfolding(crate::specs::Low::judged_low))]
 fn judged_low(factor: u8, threshold: u8, modes: u8, x: i16, y: i16, z: i16) -> Shown
     ensures { result ≡ judged_low factor threshold modes x y z }
 {
@@ -95,6 +97,7 @@ fn judged_low(factor: u8, threshold: u8, modes: u8, x: i16, y: i16, z: i16) -> S
 }
 
 // What a sample shows of low-g, by the bytes of 0x0F, 0x23 and 0x24: in an unknown range nothing.
+#[tactic(auto, unfolding(crate::specs::Low::low_shown))]
 fn low_shown(code: u8, threshold: u8, modes: u8, x: i16, y: i16, z: i16) -> Shown
     ensures { result ≡ low_shown code threshold modes x y z }
 {
@@ -126,6 +129,7 @@ fn some_above(axes: u8, limit: u32, x: Slope, y: Slope, z: Slope) -> bool
 }
 
 // What a sample shows of high-g: the first enabled axis above the limit, or whether one is above what it clears to.
+#[tactic(auto, unfolding(crate::specs::High::judged_high))]
 fn judged_high(axes: u8, limit: u32, to: u32, x: Slope, y: Slope, z: Slope) -> Shown
     ensures { result ≡ judged_high axes limit to x y z }
 {
@@ -154,6 +158,7 @@ fn clears_to(limit: u32, modes: u8) -> u32
 }
 
 // What a sample shows of high-g, by the bytes of 0x17, 0x0F, 0x26 and 0x24: in an unknown range nothing.
+#[tactic(auto, unfolding(crate::specs::High::high_shown))]
 fn high_shown(axes: u8, code: u8, threshold: u8, modes: u8, x: i16, y: i16, z: i16) -> Shown
     ensures { result ≡ high_shown axes code threshold modes x y z }
 {
@@ -173,6 +178,7 @@ fn high_shown(axes: u8, code: u8, threshold: u8, modes: u8, x: i16, y: i16, z: i
 }
 
 // Low-g after an accepted sample.
+#[tactic(auto, unfolding(crate::specs::Gravity::low_sampled))]
 fn low_sampled(low: Spell, regs: &[u8; 64], x: i16, y: i16, z: i16) -> Spell
     ensures { result ≡ low_sampled regs.now x y z low }
 {
@@ -199,6 +205,7 @@ fn low_sampled(low: Spell, regs: &[u8; 64], x: i16, y: i16, z: i16) -> Spell
 }
 
 // High-g after an accepted sample.
+#[tactic(auto, unfolding(crate::specs::Gravity::high_sampled))]
 fn high_sampled(high: Spell, regs: &[u8; 64], x: i16, y: i16, z: i16) -> Spell
     ensures { result ≡ high_sampled regs.now x y z high }
 {
@@ -287,6 +294,7 @@ impl Gravity {
     }
 
     // Status, marks and runs are cleared.
+    #[tactic(auto, unfolding(crate::specs::Gravity::both_restarted))]
     pub fn restart(self) -> Self
         ensures { result ≡ both_restarted self }
     {
@@ -299,6 +307,7 @@ impl Gravity {
     }
 
     // A clock of so many microseconds comes.
+    #[tactic(auto, unfolding(crate::specs::Gravity::both_clocked))]
     pub fn clock(self, microseconds: u32) -> Self
         ensures { result ≡ both_clocked microseconds self }
     {
@@ -311,6 +320,7 @@ impl Gravity {
     }
 
     // An accepted sample comes. Where neither is enabled nothing is asked of it.
+    #[tactic(auto, unfolding(crate::specs::Gravity::both_sampled))]
     pub fn sample(self, regs: &[u8; 64], x: i16, y: i16, z: i16) -> Self
         ensures { result ≡ both_sampled regs.now x y z self }
     {

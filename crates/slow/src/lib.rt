@@ -85,6 +85,7 @@ impl Slow {
     }
 
     // Status and runs are cleared, and the waiting starts.
+    #[tactic(auto, unfolding(crate::specs::Slow::restarted))]
     pub fn restart(mut self) -> Self
         ensures { result ≡ restarted self }
     {
@@ -95,6 +96,7 @@ impl Slow {
     }
 
     // A clock of so many microseconds comes. What of it comes after an expiry counts for the waiting that starts there.
+    #[tactic(auto, unfolding(crate::specs::Slow::clocked))]
     pub fn clock(mut self, microseconds: u32) -> Self
         ensures { result ≡ clocked microseconds self }
     {
@@ -108,6 +110,7 @@ impl Slow {
     }
 
     // No-motion at an accepted sample, with its slopes.
+    #[tactic(auto, unfolding(crate::specs::Slow::no_motion_sampled))]
     fn no_motion_sample(self, settings: Settings, slopes: Slopes) -> Self
         ensures { result ≡ no_motion_sampled settings slopes self }
     {
@@ -120,6 +123,7 @@ impl Slow {
     }
 
     // An accepted sample comes, with its slopes.
+    #[tactic(auto, unfolding(crate::specs::Slow::sampled))]
     pub fn sample(mut self, settings: Settings, slopes: Slopes) -> Self
         ensures { result ≡ sampled settings slopes self }
     {
