@@ -111,6 +111,7 @@ pub enum Axes {
 }
 
 // The range of a byte of 0x0F.
+#[tactic(auto, unfolding(crate::specs::Range::range_of))]
 pub fn range_of(byte: u8) -> Range
     ensures { result ≡ range_of byte }
 {
@@ -137,6 +138,7 @@ pub fn is_reserved_range(range: Range) -> bool
 }
 
 // The latch mode of a byte of 0x21. Of the sixteen codes 1111 is what the list leaves.
+#[tactic(auto, unfolding(crate::specs::Latch::latch_of))]
 pub fn latch_of(byte: u8) -> Latch
     ensures { result ≡ latch_of byte }
 {
@@ -183,6 +185,7 @@ pub fn hold_of(latch: Latch) -> u32
 }
 
 // The mode of a byte of 0x3E.
+#[tactic(auto, unfolding(crate::specs::Mode::mode_of))]
 pub fn mode_of(byte: u8) -> Mode
     ensures { result ≡ mode_of byte }
 {
@@ -207,6 +210,7 @@ pub fn is_reserved_mode(mode: Mode) -> bool
 }
 
 // The axes of a byte of 0x3E.
+#[tactic(auto, unfolding(crate::specs::Axes::axes_of))]
 pub fn axes_of(byte: u8) -> Axes
     ensures { result ≡ axes_of byte }
 {
@@ -227,6 +231,7 @@ pub fn wait_code(byte: u8) -> u8
 }
 
 // For how many microseconds no-motion waits by a code; 0 for a code without a meaning.
+#[tactic(auto, unfolding(crate::specs::Wait::wait_of))]
 pub fn wait_of(code: u8) -> u32
     ensures { result ≡ wait_of code }
 {

@@ -101,6 +101,7 @@ impl Previous {
     }
 
     // The slopes from it to the next sample.
+    #[tactic(auto, unfolding(crate::specs::Previous::slopes_to))]
     pub fn slopes_to(self, x: i16, y: i16, z: i16) -> Slopes
         ensures { result ≡ slopes_to x y z self }
     {
@@ -136,6 +137,7 @@ fn over_on(place: u8, axes: u8, threshold: u8, slope: Slope) -> bool
 }
 
 // The first axis that is over.
+#[tactic(auto, unfolding(crate::specs::Point::first_over))]
 fn first_over(axes: u8, threshold: u8, x: Slope, y: Slope, z: Slope) -> Point
     ensures { result ≡ first_over axes threshold x y z }
 {
@@ -152,6 +154,7 @@ fn first_over(axes: u8, threshold: u8, x: Slope, y: Slope, z: Slope) -> Point
 }
 
 // The point that slopes give, by a detector's axes (bits 2:0 count) and its threshold.
+#[tactic(auto, unfolding(crate::specs::Point::point_of))]
 pub fn judge(axes: u8, threshold: u8, slopes: Slopes) -> Point
     ensures { result ≡ point_of axes threshold slopes }
 {
@@ -182,6 +185,7 @@ impl Runs {
     }
 
     // An over point comes, where n in a row are asked for.
+    #[tactic(auto, unfolding(crate::specs::Runs::over_run))]
     pub fn after_over(mut self, n: u8) -> Self
         ensures { result ≡ over_run n self }
     {
@@ -191,6 +195,7 @@ impl Runs {
     }
 
     // A calm point comes.
+    #[tactic(auto, unfolding(crate::specs::Runs::calm_run))]
     pub fn after_calm(mut self, n: u8) -> Self
         ensures { result ≡ calm_run n self }
     {
