@@ -12,6 +12,7 @@ use laws::both;
 use registers::{Answer, SOFT_RESET, is_accepted};
 
 // Why a stretch ends with a write: a soft reset, or one to 0x0F.
+#[tactic(auto, unfolding(crate::specs::Account::why_of_write))]
 pub fn why_of_write(address: u8, byte: u8, answer: Answer) -> Why
     ensures { result ≡ why_of_write address byte answer }
 {
@@ -29,6 +30,7 @@ pub fn why_of_write(address: u8, byte: u8, answer: Answer) -> Why
 }
 
 // Why a stretch ends with a read: a readout.
+#[tactic(auto, unfolding(crate::specs::Account::why_of_read))]
 pub fn why_of_read(address: u8, answer: Answer) -> Why
     ensures { result ≡ why_of_read address answer }
 {
@@ -43,6 +45,7 @@ pub fn why_of_read(address: u8, answer: Answer) -> Why
 }
 
 // What is doubted of what the register at about sets, behind a write, which is event number.
+#[tactic(auto, unfolding(crate::specs::Account::doubt_after))]
 fn doubt_after(
     doubt: Doubt,
     about: usize,
@@ -98,6 +101,7 @@ fn readouts_by(address: u8, answer: Answer) -> u64
 
 // Behind a write: its address, its byte and its answer, and the range, the mode and the frames held behind it. Frames that left were
 // cleared.
+#[tactic(auto, unfolding(crate::specs::Account::account_after, crate::specs::Account::counts_after))]
 pub fn after_write(
     account: Account,
     address: u8,
@@ -117,6 +121,7 @@ pub fn after_write(
 }
 
 // Behind a read of so many bytes from an address on. Frames that left were taken.
+#[tactic(auto, unfolding(crate::specs::Account::account_after, crate::specs::Account::counts_after))]
 pub fn after_read(
     account: Account,
     address: u8,
@@ -136,6 +141,7 @@ pub fn after_read(
 }
 
 // Behind a sample. Where it is accepted there is one frame more, or a sample was lost.
+#[tactic(auto, unfolding(crate::specs::Account::account_after, crate::specs::Account::counts_after))]
 pub fn after_sample(
     account: Account,
     x: i16,
@@ -166,6 +172,7 @@ pub fn after_sample(
 }
 
 // Behind an event at which no frame comes or goes: a cycle start, or a clock, of which account_after says the same (proofs/Idle).
+#[tactic(auto, unfolding(crate::specs::Account::account_after, crate::specs::Account::counts_after))]
 pub fn after_idle(account: Account, answer: Answer, range: Range, mode: Mode, held: u64) -> Account
     ensures { result ≡ account_after account cycle answer range mode held }
 {

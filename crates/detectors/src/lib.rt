@@ -159,6 +159,7 @@ impl Detectors {
     }
 
     // An accepted sample comes.
+    #[tactic(auto, unfolding(crate::specs::Detectors::detectors_sampled))]
     pub fn sample(mut self, regs: &[u8; 64], x: i16, y: i16, z: i16) -> Self
         ensures { result ≡ detectors.detectors_sampled regs.now x y z self }
     {
@@ -174,6 +175,7 @@ impl Detectors {
     }
 
     // A clock of so many microseconds comes.
+    #[tactic(auto, unfolding(crate::specs::Detectors::detectors_clocked))]
     pub fn clock(mut self, microseconds: u32) -> Self
         ensures { result ≡ detectors.detectors_clocked microseconds self }
     {
@@ -187,6 +189,7 @@ impl Detectors {
     }
 
     // A write was done.
+    #[tactic(auto, unfolding(crate::specs::Detectors::detectors_written))]
     pub fn after_write(mut self, deeds: Deeds) -> Self
         ensures { result ≡ detectors.detectors_written deeds self }
     {
