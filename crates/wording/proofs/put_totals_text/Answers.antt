@@ -1,0 +1,6 @@
+use Rattle.wording.proofs.Lines.{spelt-two}
+use Rattle.wording.proofs.put_totals_text.Goals as goal
+
+pub returns : goal.returns
+returns c =
+    spelt-two c.phrase-to.ensures (spelt-two c.phrase-to-2.ensures (spelt-two c.phrase-to-3.ensures c.phrase.ensures))
