@@ -45,11 +45,11 @@ module _ (w : Watch) (l : Lawful w) where
         go : Next w es e → Goes
         go (anew r s) = let z : true ≡ false = sym r ∙ same in let y : ◌≡◌ {A = ℕ} 0 1 = cc in absurd (omega arith)
         go (rest us is r x s) = let k = expiry-when w l es e x in absurd (omega (arith, k.2))
-        go (more us is r x s) = let m = ap microseconds_at is in rw (s, kept w l es e r, m) (set, refl)
+        go (more us is r x s) = let m = ap microseconds_at is in rw (kept w l es e r, s, m) (set, refl)
         go (one p n r f s) =
-            rw (s, kept w l es e r, set, n)
+            rw (kept w l es e r, s, set, n)
             (at (w.sets (going_by w es).own (point p ∷ seen w es)) (going_by w es).non_latched (w.clears (going_by w es).own (point p ∷ seen w es)) (timed-not es timed))
-        go (none c n r f s) = rw (s, kept w l es e r, n) (set, omega arith)
+        go (none c n r f s) = rw (kept w l es e r, s, n) (set, omega arith)
 
   -- ---- the events since the one that set it
   module _ (es : List Event) (e : Event) (set : sets_at w es e ≡ true) (timed : 1 ≤ time (e ∷ es)) where
@@ -76,9 +76,9 @@ module _ (w : Watch) (l : Lawful w) where
         go : Next w es e → clock_since w (e ∷ es) ≡ 0
         go (anew r s) = rw s
         go (rest us is r x s) = let n = expiry-clears w l es e x in let t = right (not (is_set w es)) (is_set w (e ∷ es)) set in let z : ◌≡◌ {A = ℕ} 0 1 = cc in absurd (omega arith)
-        go (more us is r x s) = not_set (rw (s, kept w l es e r))
-        go (one p n r f s) = rw (s, kept w l es e r) (let k : both (not (is_set w es)) (is_set_by w (going_by w es) (point p ∷ seen w es)) ≡ true = rw (s, kept w l es e r) at set in rw k)
-        go (none c n r f s) = not_set (rw (s, kept w l es e r))
+        go (more us is r x s) = not_set (rw (kept w l es e r, s))
+        go (one p n r f s) = rw (kept w l es e r, s) (let k : both (not (is_set w es)) (is_set_by w (going_by w es) (point p ∷ seen w es)) ≡ true = rw (kept w l es e r, s) at set in rw k)
+        go (none c n r f s) = not_set (rw (kept w l es e r, s))
 
     more-waits : (f : Event) (later : List Event) → restarts w (behind later) f ≡ false → clock_over (f ∷ later) < time (e ∷ es) → Waits later → Waits (f ∷ later)
     more-waits f later same short k =

@@ -134,13 +134,13 @@ module _ (w : Watch) (l : Lawful w) where
     unfolding is_set_by since_by
     below_next (anew r s) = rw s (λ t h. let z : ◌≡◌ {A = ℕ} 0 1 = cc in absurd (omega arith))
     below_next (rest us is r x s) = rw s (λ t h. let z : ◌≡◌ {A = ℕ} 0 1 = cc in absurd (omega arith))
-    below_next (more us is r x s) = rw (s, kept w l es e r) (λ t h. let n = expiry-not w l es e x t h in omega (arith, ap microseconds_at is))
-    below_next (one p n r f s) = rw (s, kept w l es e r) (λ t h. rw t (go (is_set w es) refl h))
+    below_next (more us is r x s) = rw (kept w l es e r, s) (λ t h. let n = expiry-not w l es e x t h in omega (arith, ap microseconds_at is))
+    below_next (one p n r f s) = rw (kept w l es e r, s) (λ t h. rw t (go (is_set w es) refl h))
       where
         go : (t : Bool) → is_set w es ≡ t → 1 ≤ (going_by w es).time → pick (both (not t) true) 0 (clock_since w es) < (going_by w es).time
         go true f h = b f h
         go false f h = h
-    below_next (none c n r f s) = rw (s, kept w l es e r) b
+    below_next (none c n r f s) = rw (kept w l es e r, s) b
 
   pub below : (es : List Event) → is_set w es ≡ true → 1 ≤ (going_by w es).time → clock_since w es < (going_by w es).time
   unfolding seen is_set_by

@@ -58,11 +58,11 @@ module _ (w : Watch) (l : Lawful w) (es : List Event) (e : Event) where
         go : Next w es e → sets_at w es e ≡ false
         go (anew r s) = clears-not (restart-clears w l es e r)
         go (rest us is r x s) = clears-not (expiry-clears w l es e x)
-        go (more us is r x s) = rw (s, kept w l es e r) (same (is_set w es))
+        go (more us is r x s) = rw (kept w l es e r, s) (same (is_set w es))
         go (one q m r g s) =
             let i : q ≡ p = cc in
-            rw (s, kept w l es e r, i, n) (at (both (going_by w es).non_latched (w.clears (going_by w es).own (point p ∷ seen w es))) (is_set w es))
-        go (none c m r g s) = rw (s, kept w l es e r) (same (is_set w es))
+            rw (kept w l es e r, s, i, n) (at (both (going_by w es).non_latched (w.clears (going_by w es).own (point p ∷ seen w es))) (is_set w es))
+        go (none c m r g s) = rw (kept w l es e r, s) (same (is_set w es))
 
   -- "A status already set is not set again": mark and sign stay those of the setting
   pub not-set-again : is_set w es ≡ true → is_set w (e ∷ es) ≡ true → (mark_shown w (e ∷ es) ≡ mark_shown w es) × (sign_shown w (e ∷ es) ≡ sign_shown w es)
