@@ -62,6 +62,7 @@ impl Alarm {
     }
 
     // A clock of so many microseconds comes.
+    #[tactic(auto, unfolding(crate::specs::Alarm::lapse_of))]
     pub fn clock(mut self, microseconds: u32) -> Lapse
         ensures { result ≡ lapse_of microseconds self }
     {

@@ -60,6 +60,7 @@ impl Motion {
     }
 
     // Status, marks and runs are cleared.
+    #[tactic(auto, unfolding(crate::specs::Detector::restarted))]
     pub fn restart(mut self) -> Self
         ensures { result ≡ restarted self }
     {
@@ -70,6 +71,7 @@ impl Motion {
     }
 
     // An accepted sample comes, with its slopes.
+    #[tactic(auto, unfolding(crate::specs::Detector::after_sample))]
     pub fn sample(self, settings: Settings, slopes: Slopes) -> Self
         ensures { result ≡ after_sample settings slopes self }
     {
@@ -83,6 +85,7 @@ impl Motion {
     }
 
     // A clock of so many microseconds comes. Behind an expiry no time runs here, so what is left of the clock changes nothing more.
+    #[tactic(auto, unfolding(crate::specs::Detector::clocked))]
     pub fn clock(mut self, microseconds: u32) -> Self
         ensures { result ≡ clocked microseconds self }
     {
@@ -97,6 +100,7 @@ impl Motion {
         }
     }
 
+    #[tactic(auto, unfolding(crate::specs::Detector::after_over))]
     fn after_over(mut self, n: u8, axis: u8, falling: bool, hold: u32) -> Self
         ensures { result ≡ after_over n axis falling hold self }
     {
@@ -110,6 +114,7 @@ impl Motion {
         self
     }
 
+    #[tactic(auto, unfolding(crate::specs::Detector::after_calm))]
     fn after_calm(mut self, n: u8, unlatched: bool) -> Self
         ensures { result ≡ after_calm n unlatched self }
     {

@@ -57,6 +57,7 @@ fn stored_axis(step: u8, byte: u8, given: i16) -> i16
 }
 
 // What is stored of a given sample, by the bytes that the registers hold.
+#[tactic(auto, unfolding(crate::specs::Offsets::stored_by))]
 pub fn stored_by(regs: &[u8; 64], x: i16, y: i16, z: i16) -> Stored
     ensures { result ≡ stored_by regs.now x y z }
 {

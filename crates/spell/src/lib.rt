@@ -28,6 +28,7 @@ impl Stopwatch {
     }
 
     // A clock of so many microseconds comes.
+    #[tactic(auto, unfolding(crate::specs::Stopwatch::longer))]
     pub fn clock(mut self, microseconds: u32) -> Self
         ensures { result ≡ longer microseconds self }
     {
@@ -92,6 +93,7 @@ impl Spell {
     }
 
     // Status, marks and run are cleared; the run is then as given.
+    #[tactic(auto, unfolding(crate::specs::Spell::restarted))]
     pub fn restart(self, fresh: Stopwatch) -> Self
         ensures { result ≡ restarted fresh self }
     {
@@ -103,6 +105,7 @@ impl Spell {
     }
 
     // A clock of so many microseconds comes. What of it comes after an expiry goes on, in a run that has begun anew.
+    #[tactic(auto, unfolding(crate::specs::Spell::clocked))]
     pub fn clock(self, fresh: Stopwatch, microseconds: u32) -> Self
         ensures { result ≡ clocked fresh microseconds self }
     {
@@ -122,6 +125,7 @@ impl Spell {
     }
 
     // A sample comes; the status is set where the condition has been met for a time.
+    #[tactic(auto, unfolding(crate::specs::Spell::after_sample))]
     pub fn sample(
         self,
         fresh: Stopwatch,
@@ -140,6 +144,7 @@ impl Spell {
         }
     }
 
+    #[tactic(auto, unfolding(crate::specs::Spell::after_met))]
     fn after_met(mut self, mark: u8, negative: bool, time: u32, hold: u32) -> Self
         ensures { result ≡ after_met mark negative time hold self }
     {
@@ -153,6 +158,7 @@ impl Spell {
         self
     }
 
+    #[tactic(auto, unfolding(crate::specs::Spell::after_unmet))]
     fn after_unmet(mut self, fresh: Stopwatch, clears: bool) -> Self
         ensures { result ≡ after_unmet fresh clears self }
     {
