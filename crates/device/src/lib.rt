@@ -54,6 +54,7 @@ impl Device {
 
     pub const DEPTH: usize = 32;
 
+    #[tactic(auto, unfolding(crate::specs::Device::power_up))]
     pub fn power_up() -> Self
         ensures { result ≡ power_up }
     {
@@ -116,6 +117,7 @@ impl Device {
     }
 
     // The start of an acquisition cycle.
+    #[tactic(auto, unfolding(crate::specs::Sample::cycle_of))]
     pub fn start_cycle(mut self) -> Answered
         ensures { result ≡ cycle_of self }
     {
@@ -127,6 +129,7 @@ impl Device {
     }
 
     // A clock of so many microseconds.
+    #[tactic(auto, unfolding(crate::specs::Clock::clock_of))]
     pub fn clock(mut self, microseconds: u32) -> Answered
         ensures { result ≡ clock_of self microseconds }
     {

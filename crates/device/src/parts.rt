@@ -141,6 +141,7 @@ impl Core {
     }
 
     // The start of an acquisition cycle.
+    #[tactic(auto, unfolding(crate::specs::Sample::cycle_of))]
     pub fn start_cycle(mut self) -> CoreAnswered
         ensures { (regs frames : List ℕ) → answered_whole result regs frames ≡ cycle_of (whole self regs frames) }
     {
@@ -152,6 +153,7 @@ impl Core {
     }
 
     // A clock of so many microseconds.
+    #[tactic(auto, unfolding(crate::specs::Clock::clock_of))]
     pub fn clock(mut self, microseconds: u32) -> CoreAnswered
         ensures { (regs frames : List ℕ) → answered_whole result regs frames ≡ clock_of (whole self regs frames) microseconds }
     {
@@ -164,6 +166,7 @@ impl Core {
     }
 
     // Both pin levels.
+    #[tactic(auto, unfolding(crate::specs::Show::pins_of))]
     pub fn pins(self, regs: &[u8; 64]) -> Pins
         ensures { (frames : List ℕ) → result ≡ pins_of (whole self regs.now frames) }
     {

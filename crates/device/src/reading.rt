@@ -16,6 +16,7 @@ fn is_data(at: usize) -> bool
 }
 
 // The byte of an address.
+#[tactic(auto, unfolding(crate::specs::Read::byte_from))]
 fn byte_from(channels: Channels, inside: Inside, regs: &[u8; 64], at: usize) -> u8
     ensures { result ≡ byte_from channels inside regs.now at }
 {

@@ -45,6 +45,7 @@ pub fn statuses_in(regs: &[u8; 64], inside: Inside) -> Statuses
 }
 
 // The byte of an address that is no data register.
+#[tactic(auto, unfolding(crate::specs::Show::shown_byte))]
 pub fn shown_byte(inside: Inside, regs: &[u8; 64], at: usize) -> u8
     ensures { result ≡ shown_byte inside regs.now at }
 {

@@ -5,6 +5,7 @@ ghost use Rattle.device.specs.Sample.{sample_answer};
 use channels::in_range;
 use registers::Answer;
 
+#[tactic(auto, unfolding(crate::specs::Sample::sample_answer))]
 pub fn sample_answer(x: i16, y: i16, z: i16) -> Answer
     ensures { result ≡ sample_answer x y z }
 {

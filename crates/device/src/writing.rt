@@ -10,6 +10,7 @@ use registers::Deeds;
 use table::reset_bytes;
 
 // The register bytes at power-up.
+#[tactic(auto, unfolding(crate::specs::Device::first_bytes))]
 pub fn first_bytes() -> [u8; 64]
     ensures { result ≡ first_bytes }
 {
