@@ -8,15 +8,7 @@ use lib.Dec.{ltb}
 use lib.ListN.{length, length-append}
 use Rattle.laws.specs.Choice.{pick}
 use Rattle.text.specs.Text.{digit, last_digits, most_digits, decimal}
-use Rattle.text.proofs.digits_in.Statement.{statement}
-use Rattle.text.proofs.digits_in.Tie as tie
-
--- the digits that are left to be counted, at the least one
-abbrev invariant-loop : tie.invariant-loop
-invariant-loop n count₀ rest₀ count rest = (1 ≤ count) × (count ≤ most_digits) × (length (decimal n) + 1 ≡ length (last_digits (suc (most_digits - count)) rest) + count)
-
-abbrev decreases-loop : tie.decreases-loop
-decreases-loop n count₀ rest₀ count rest = most_digits - count
+use Rattle.text.proofs.digits_in.Goals as goal
 
 one : (k n : ℕ) → n < 10 → length (last_digits (suc k) n) ≡ 1
 unfolding last_digits
@@ -34,26 +26,22 @@ last n = go (ltb n 10)
     go true = refl
     go false = refl
 
-start : tie.Need-loop-init invariant-loop decreases-loop
+pub loop-count-init : goal.loop-count-init
 unfolding decimal
-start c = (omega arith, omega arith, refl)
+loop-count-init c = (omega arith, omega arith, refl)
 
-pub digits-in-spec : {M : Type 1} → statement M
-digits-in-spec =
-    tie.close
-    (tie.spec
-    invariant-loop
-    decreases-loop
-    start
-    (λ c. omega (arith, one (most_digits - c.before.before.loop.count) c.before.before.loop.rest c.if1.true))
-    (λ c. omega arith)
-    (λ c. omega arith)
-    (λ c.
-    let l = c.before.before.loop in
+pub returns-then-rest-lt10 : goal.returns-then-rest-lt10
+returns-then-rest-lt10 c = omega (arith, one (most_digits - c.loop-count.count) c.loop-count.rest c.if-rest-lt10.true)
+
+pub loop-count-preserved : goal.loop-count-preserved
+loop-count-preserved c =
+    let l = c.loop-count in
     let k : most_digits - l.count ≡ suc (most_digits - (l.count + 1)) = omega arith in
-    (omega arith, omega arith, rw (← k) (omega (arith, more (most_digits - l.count) l.rest c.if1.false))))
-    (λ c.
-    let l = c.before.loop in
+    (omega arith, omega arith, rw (← k) (omega (arith, more (most_digits - l.count) l.rest c.if-rest-lt10.false)))
+
+pub returns : goal.returns
+returns c =
+    let l = c.loop-count in
     let k : l.count ≡ most_digits = omega arith in
     let e : length (last_digits (suc (most_digits - l.count)) l.rest) ≡ 1 = rw k (last l.rest) in
-    omega arith))
+    omega arith
