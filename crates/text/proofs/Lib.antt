@@ -1,4 +1,5 @@
 pub mod Texts
 pub mod Numerals
+pub mod Spelled
 pub mod Cases
 pub mod OneOutcome
