@@ -1,0 +1,21 @@
+use mir.Facts.{to_z-of_z}
+use mir.Syntax.{w16, w64}
+use mir.Val.{SFits}
+use borrow.Author.Rules.{rules}
+use Rattle.sheetfile.specs.Whole.{tally_is_whole}
+use Rattle.sheetfile.proofs.Sums.{zero_bits}
+use Rattle.sheetfile.proofs.tally_is_whole.Goals as goal
+
+pub returns-in-NoSample : goal.returns-in-NoSample
+unfolding tally_is_whole
+returns-in-NoSample c =
+    let t = c.args.tally in
+    let fits : SFits w64 t.sum = search rules in
+    rw (zero_bits t.sum fits) (simp c.in-NoSample.is)
+
+pub returns-in-Of : goal.returns-in-Of
+unfolding tally_is_whole
+returns-in-Of c =
+    let s : SFits w16 c.in-Of.smallest = search rules in
+    let l : SFits w16 c.in-Of.largest = search rules in
+    simp (c.in-Of.is, to_z-of_z s, to_z-of_z l)
