@@ -12,6 +12,7 @@ use counts::Account;
 use registers::Answer;
 
 // By the record, its answer, and the range, the mode and the frames held behind it.
+#[tactic(auto, unfolding(entries::specs::Entries::event_of))]
 pub fn account_behind(
     account: Account,
     entry: Entry,
