@@ -1,6 +1,6 @@
 -- Q-4, of low-g and high-g together: "Two clock events in a row equal one of their sum", and a clock of 0 changes nothing. Assumes nothing.
 use Prim.Native.Nat.{ℕ, ◌+◌}
-use mathlib.Core.Path.{◌≡◌, refl}
+use mathlib.Core.Path.{◌≡◌}
 use Rattle.spell.specs.Stopwatch.{stopped}
 use Rattle.spell.proofs.Clock as spell
 use Rattle.gravity.specs.Gravity.{low_spell, high_spell, both_clocked}
