@@ -22,6 +22,7 @@ pub enum Wanted {
 }
 
 // A number with one digit more behind its own: none, where it is no digit or the number has more than 64 bits then.
+#[tactic(auto, unfolding(crate::specs::Words::with_digit))]
 fn with_digit(n: u64, c: u8) -> Number
     ensures { result ≡ with_digit n c }
 {
@@ -39,6 +40,7 @@ fn with_digit(n: u64, c: u8) -> Number
 }
 
 // The number that decimal digits stand for.
+#[tactic(auto, unfolding(crate::specs::Words::number_of))]
 pub fn number_of(word: &[u8]) -> Number
     ensures { result ≡ number_of word.now }
 {
@@ -77,6 +79,7 @@ fn is_all(word: &[u8]) -> bool
 }
 
 // What one word asks for.
+#[tactic(auto, unfolding(crate::specs::Words::by_word))]
 fn by_word(word: &[u8]) -> Wanted
     ensures { result ≡ by_word word.now }
 {
@@ -110,6 +113,7 @@ fn between(from: Number, upto: Number) -> Wanted
 }
 
 // What is asked for by so many words, of which the program's name is one, and by the two behind it.
+#[tactic(auto, unfolding(crate::specs::Words::wanted_of))]
 pub fn wanted_of(count: usize, first: &[u8], second: &[u8]) -> Wanted
     ensures { result ≡ wanted_of count first.now second.now }
 {
@@ -140,6 +144,7 @@ fn is_pins(word: &[u8]) -> bool
 
 // Whether the pins are asked for behind every line of a replay: by so many words, of which the program's name is one, and by the one
 // behind it.
+#[tactic(auto, unfolding(crate::specs::Words::pins_wanted_of))]
 pub fn pins_of(count: usize, first: &[u8]) -> PinsWanted
     ensures { result ≡ pins_wanted_of count first.now }
 {
@@ -190,6 +195,7 @@ fn is_join_raw(word: &[u8]) -> bool
     check::same(word, b"join-raw")
 }
 
+#[tactic(auto, unfolding(crate::specs::Words::sheet_by_word))]
 fn sheet_by_word(word: &[u8]) -> SheetWanted
     ensures { result ≡ sheet_by_word word.now }
 {
@@ -210,6 +216,7 @@ fn sheet_by_word(word: &[u8]) -> SheetWanted
 
 // What is asked for of a sheet by so many words, of which the program's name is one, and by the one behind it. Behind that stands a name,
 // at least.
+#[tactic(auto, unfolding(crate::specs::Words::sheet_wanted_of))]
 pub fn sheet_of(count: usize, first: &[u8]) -> SheetWanted
     ensures { result ≡ sheet_wanted_of count first.now }
 {
