@@ -12,6 +12,9 @@ use codes::Range;
 
 const MOST_PLACES: usize = 10;
 
+// What is left where no digit is to come.
+const NOTHING: u32 = 0;
+
 // A sign, three digits, the point and ten digits: no count has a longer text.
 pub const LONGEST_G: usize = 5 + MOST_PLACES;
 
@@ -76,7 +79,7 @@ fn put_places(out: &mut [u8], at: usize, rest: u32) -> usize
     let mut i: usize = 0;
     let mut left = rest;
     while i < MOST_PLACES {
-        if left == 0 {
+        if left == NOTHING {
             return at + i;
         }
         out[at + i] = 48 + (left * 10 / 1024) as u8;
