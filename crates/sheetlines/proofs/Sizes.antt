@@ -14,7 +14,7 @@ use mir.Facts.{to_z-of_z, sfits_widen}
 
 -- ---- a number of 16 bits, taken to 64
 pub wide : {z : ℤ} → SFits w16 z → to_z w64 (of_z w64 (to_z w16 (of_z w16 z))) ≡ z
-wide h = rw (to_z-of_z h) (to_z-of_z (sfits_widen tt h))
+wide h = rw (to_z-of_z {w = w16} h) (to_z-of_z {w = w64} (sfits_widen {w = w16} {w' = w64} tt h))
 
 -- ---- the size of a number of 64 bits: one nearer to 0 it can be turned, the least of all too
 nearer : (k : ℕ) → negsuc k +ℤ pos 1 ≡ neg_ℤ (pos k)
