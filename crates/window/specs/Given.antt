@@ -1,18 +1,24 @@
 -- What is made of the answer of a read.
-use Rattle.std.specs.Prelude.{ℕ, ◌≤◌, ◌≡◌, false, ℤ, pos}
-use Rattle.std.specs.Int.Signed.{lt_z}
-use Rattle.io.specs.Counts.{clamp_len}
-use Rattle.libc.specs.Io.{Moved}
+use Rattle.std.specs.Prelude.{ℕ, ◌≤◌, ◌≡◌, Bool, true, false, min, Result, Ok, Err, IfOk}
 use Rattle.window.specs.declared.given.Got.{Got}
 
--- a negative answer is a failure; another says how many bytes of the room came
-abbrev pub got_of : ℤ → ℕ → Got
-got_of answer room = record { failed = lt_z answer (pos 0); count = clamp_len answer room }
+-- an error is a failure
+abbrev pub is_failure : {E : Type 0} → Result ℕ E → Bool
+is_failure (Ok n) = false
+is_failure (Err e) = true
+
+-- another answer says how many bytes of the room came
+abbrev pub count_in : {E : Type 0} → Result ℕ E → ℕ → ℕ
+count_in (Ok n) room = min n room
+count_in (Err e) room = 0
+
+abbrev pub got_of : {E : Type 0} → Result ℕ E → ℕ → Got
+got_of answer room = record { failed = is_failure answer; count = count_in answer room }
 
 -- there is an answer that a read into so much room may give, of which it is made: where there is no room, that of a failure
 pub record GivenBy (room : ℕ) (got : Got) : Type 0 where
-  pub answer : ℤ
-  pub moved : Moved room answer
+  pub answer : Result ℕ (Unit {0})
+  pub moved : IfOk answer (λ n. n ≤ room)
   pub got-is : got ≡ got_of answer room
 
 -- a read into so much room: where it did not fail there was some

@@ -1,8 +1,11 @@
 // The one read. No contract can say what it gives: what it came to is a value that only this module makes, so whoever needs one has to
 // read, and what is made of it has an exact contract.
-ghost use Rattle.std.specs.Prelude.{◌≤◌, ◌≡◌, pos, length};
-ghost use Rattle.std.specs.Int.Signed.{lt_z};
-ghost use Rattle.window.specs.Given.{got_of, ReadInto};
+ghost use Rattle.std.specs.Prelude.{◌≤◌, ◌≡◌, length};
+ghost use Rattle.window.specs.Given.{is_failure, got_of, ReadInto};
+
+use laws::least;
+use std::io;
+use std::io::Read;
 
 // What a read gave: that it failed, or how many bytes.
 #[derive(Clone, Copy)]
@@ -25,24 +28,27 @@ impl Got {
     }
 }
 
-fn is_failure(answer: isize) -> bool
-    ensures { result ≡ lt_z answer (pos 0) }
+fn is_failure(answer: &io::Result<usize>) -> bool
+    ensures { result ≡ is_failure answer.now }
 {
-    answer < 0
+    match answer {
+        Ok(_) => false,
+        Err(_) => true,
+    }
 }
 
 // What is made of a read's answer, by the room that it was lent.
-fn got_of(answer: isize, room: &[u8]) -> Got
+fn got_of(answer: io::Result<usize>, room: &[u8]) -> Got
     ensures { (result ≡ got_of answer (length room.now)) × (result.count ≤ length room.now) }
 {
     Got {
-        failed: is_failure(answer),
-        count: io::count(answer, room),
+        failed: is_failure(&answer),
+        count: least(answer.unwrap_or(0), room.len()),
     }
 }
 
 // A read into some room: where there is none, it would give nothing and look like the end of the input, so it fails.
-pub fn read_into(input: i32, room: &mut [u8]) -> Got
+pub fn read_into<R: Read>(input: &mut R, room: &mut [u8]) -> Got
     ensures { ReadInto (length room.old) result }
 {
     if room.len() == 0 {
@@ -51,6 +57,6 @@ pub fn read_into(input: i32, room: &mut [u8]) -> Got
             count: 0,
         };
     }
-    let answer = libc::read(input, &mut *room);
+    let answer = input.read(&mut *room);
     got_of(answer, room)
 }

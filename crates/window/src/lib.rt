@@ -12,6 +12,7 @@ ghost use Rattle.window.specs.Window.{start, past, at_front, with_read, more_of,
 
 use given::{Got, read_into};
 use laws::{least, move_forward};
+use std::io::Read;
 
 // The bytes that came and are not used stand from one place of the buffer up to another; and whether the input has ended.
 #[derive(Clone, Copy)]
@@ -96,7 +97,7 @@ fn more_of(window: Window, got: Got) -> More
 }
 
 // More of the input behind what is not used. It fails where the read does, and where the buffer has no room for more.
-pub fn refill(input: i32, window: Window, buffer: &mut [u8]) -> More
+pub fn refill<R: Read>(input: &mut R, window: Window, buffer: &mut [u8]) -> More
     ensures { RefilledAs result.failed window buffer.old result.window buffer.new }
 {
     let front = move_to_front(window, &mut *buffer);
