@@ -1,9 +1,11 @@
 # Names of logs, which are any bytes, as a terminal, a table, JSON or a picture may have them. Bytes are counted as bytes: LC_ALL is C.
-# With alone from outside it prints TEXT, of the environment, as a terminal may have it; else it is for the scripts that are read with it.
+# With alone from outside it prints TEXT, of the environment, as a terminal may have it, and with sound it ends with status 1 where TEXT is no
+# UTF-8; else it is for the scripts that are read with it.
 
 BEGIN {
     for (byte = 1; byte < 256; byte++) code[sprintf("%c", byte)] = byte
     if (alone) printf "%s", shown(ENVIRON["TEXT"])
+    if (sound) exit !is_utf8(ENVIRON["TEXT"])
 }
 
 function byte_at(s, i) { return code[substr(s, i, 1)] + 0 } # 0 past the end
@@ -23,6 +25,8 @@ function utf8(s, i,   b) {
     point = (b % 8) * 262144 + (byte_at(s, i + 1) - 128) * 4096 + (byte_at(s, i + 2) - 128) * 64 + byte_at(s, i + 3) - 128
     return point >= 65536 && point < 1114112 ? 4 : 0
 }
+
+function is_utf8(s,   i, k) { for (i = 1; i <= length(s); i += k) if ((k = utf8(s, i)) == 0) return 0; return 1 }
 
 # Whether a character only shows itself: no control, nothing that turns the direction of a line or ends it, and none that XML lacks.
 function is_plain(p) {

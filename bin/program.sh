@@ -313,14 +313,14 @@ start() { # ARG..
 # How far it is, on standard error where that is a terminal and the text goes elsewhere: a line that is written anew each second and wiped
 # at the end. Of a long log, in per cent: a descriptor that is handed on shares its place in the file, so the place of this process is the
 # program's. Of several logs that one program opens, how many are done: it writes a byte behind each to descriptor 5, a file of target's
-# that has no name any more.
+# that has no name any more, and so many bytes are in it.
 long=16777216
 to_terminal= # the command's own output, whatever stands between it and the program
 [ ! -t 1 ] || to_terminal=yes
 in_front() { IFS= read -r fields </proc/self/stat && set -- ${fields##*) } && [ "$3" = "$6" ]; } # its group has the terminal
-percent() { far=$(($1 * 100 / size)) && far="$label $((far < 100 ? far : 100)) %"; } # PLACE
-logs_done() { far="$1 of $several_logs logs"; } # PLACE
-show_far() { # HOW, in words, of a place; and the place is that of descriptor 5
+percent() { read -r word place </proc/self/fdinfo/5 && far=$((place * 100 / size)) && far="$label $((far < 100 ? far : 100)) %"; }
+logs_done() { place=$(stat -Lc %s /proc/self/fd/5) && far="$place of $several_logs logs"; }
+show_far() { # HOW, in words, by descriptor 5
     shown= label=$log
     if [ "$log" = - ]; then label='standard input'; fi
     label=$(harmless "$(printf '%.40s' "${label##*/}")")
@@ -328,8 +328,7 @@ show_far() { # HOW, in words, of a place; and the place is that of descriptor 5
     while runs $$; do
         sleep 1 &
         wait $!
-        in_front && read -r word place </proc/self/fdinfo/5 || continue
-        "$1" "$place"
+        in_front && "$1" || continue
         shown="bin/$name: $far"
         printf '%s\r' "$shown" >&2
     done

@@ -7,37 +7,38 @@ ghost use Rattle.arguments.specs.declared.Wanted.TheVariants.{Wrong};
 ghost use Rattle.answer.specs.Program.{AnsweredAs};
 
 use arguments::{Wanted, wanted_of};
-use libc::{STDIN_FILENO, STDOUT_FILENO};
 use stream::Ended;
 
 // How the answer that was asked for came to its end.
-fn tell_answered(wanted: Wanted, ended: Ended)
+fn tell_answered(rt: &HostRuntime, wanted: Wanted, ended: Ended)
     requires { AnsweredAs wanted ended }
 {
-    ending::tell_end(b"answer", ended);
+    ending::tell_end(rt, &mut rt.stderr(), b"answer", ended);
 }
 
 // Where nothing was asked for in so many words.
-fn tell_misused(wanted: Wanted)
+fn tell_misused(rt: &HostRuntime, wanted: Wanted)
     requires { wanted ≡ Wrong }
 {
     ending::tell_use(
+        rt,
+        &mut rt.stderr(),
         b"answer",
         b"it takes no argument, one of the words modes, samples and all, or two record numbers, of which the first is smaller",
     );
 }
 
-fn main() {
-    let mut first = io::buffer();
-    let mut second = io::buffer();
-    let m = os::arg(1, &mut first);
-    let n = os::arg(2, &mut second);
+fn main(rt: HostRuntime) {
+    let mut first = [0u8; 4096];
+    let mut second = [0u8; 4096];
+    let m = caller::word_at(&rt, 1, &mut first);
+    let n = caller::word_at(&rt, 2, &mut second);
     // of a word that does not fit into its buffer the count is 0, and an empty word asks for nothing
-    let wanted = wanted_of(os::arg_count(), &first[..m], &second[..n]);
+    let wanted = wanted_of(caller::word_count(&rt), &first[..m], &second[..n]);
     let Wanted::Of(asked) = wanted else {
-        tell_misused(wanted);
+        tell_misused(&rt, wanted);
         return;
     };
-    let ended = stream::pump_answer(STDIN_FILENO, STDOUT_FILENO, asked);
-    tell_answered(wanted, ended);
+    let ended = stream::pump_answer(&mut rt.stdin(), &mut rt.stdout(), asked);
+    tell_answered(&rt, wanted, ended);
 }

@@ -1,15 +1,17 @@
 // How a program that pumps a log ends. Where the input cannot be read or the output cannot be written, a line on standard error says so.
-// A program has no status of its own: its digit goes to descriptor 3, for a caller that opens it.
+// The digit of its status goes to descriptor 3, for a caller that opens it: the status of the process is 0.
 #![tactic(auto)]
 
 ghost use Rattle.std.specs.Prelude.{◌≡◌};
 ghost use Rattle.stream.specs.Pump.{status_of};
 ghost use Rattle.ending.specs.Ending.{digit_of, misused, whole_up_to};
 
-use libc::STDERR_FILENO;
+use std::io::Write;
+use std::rt::Files;
 use stream::{Ended, How, status_of};
 
-const STATUS_FILENO: i32 = 3;
+// The link of descriptor 3.
+const STATUS: &str = "/proc/self/fd/3";
 
 // The status of a program that was not used as it is meant to be.
 const MISUSED: u8 = 2;
@@ -18,67 +20,73 @@ const MISUSED: u8 = 2;
 fn digit_of(status: u8) -> u8
     ensures { result ≡ digit_of status }
 {
-    std::num::wrapping_add_u8(48, status)
+    48u8.wrapping_add(status)
 }
 
 // The digit of a program that came to its end so.
-fn give_ended(how: How, digit: u8)
+fn give_ended<R: Files>(rt: &R, how: How, digit: u8)
     requires { digit ≡ digit_of (status_of how) }
 {
-    io::write_all(STATUS_FILENO, &[digit]);
+    caller::put_byte(rt, STATUS, digit);
 }
 
 // The digit of a program that was not used as it is meant to be.
-fn give_misused(digit: u8)
+fn give_misused<R: Files>(rt: &R, digit: u8)
     requires { digit ≡ digit_of misused }
 {
-    io::write_all(STATUS_FILENO, &[digit]);
+    caller::put_byte(rt, STATUS, digit);
 }
 
 // The digit of a program that has this status.
-fn give_status(status: u8, digit: u8)
+fn give_status<R: Files>(rt: &R, status: u8, digit: u8)
     requires { digit ≡ digit_of status }
 {
-    io::write_all(STATUS_FILENO, &[digit]);
+    caller::put_byte(rt, STATUS, digit);
+}
+
+// Some bytes of a line on standard error. Where that is not written, nothing else can say so.
+fn say<E: Write>(errors: &mut E, bytes: &[u8]) {
+    let _ = errors.write_all(bytes);
 }
 
 // What failed, and the record up to which the text is whole.
-fn tell_failed(program: &[u8], what: &[u8], ended: Ended, whole: u64)
+fn tell_failed<E: Write>(errors: &mut E, program: &[u8], what: &[u8], ended: Ended, whole: u64)
     requires { whole ≡ whole_up_to ended }
 {
-    io::write_all(STDERR_FILENO, program);
-    io::write_all(STDERR_FILENO, b": ");
-    io::write_all(STDERR_FILENO, what);
-    io::write_all(STDERR_FILENO, b"; the text is whole up to record ");
-    io::print_decimal(STDERR_FILENO, whole);
-    io::write_all(STDERR_FILENO, b"\n");
+    say(&mut *errors, program);
+    say(&mut *errors, b": ");
+    say(&mut *errors, what);
+    say(&mut *errors, b"; the text is whole up to record ");
+    let _ = writeln!(errors, "{whole}");
 }
 
 // The end of a program, by its name, behind its pump.
-pub fn tell_end(program: &[u8], ended: Ended) {
+pub fn tell_end<R: Files, E: Write>(rt: &R, errors: &mut E, program: &[u8], ended: Ended) {
     let how = ended.how;
     let task = ended.task;
     let job = ended.job;
     let whole = job.records(task);
     match how {
-        How::On => tell_failed(program, b"the input is too long", ended, whole),
+        How::On => tell_failed(errors, program, b"the input is too long", ended, whole),
         How::Stopped(_) => {}
-        How::NotRead => tell_failed(program, b"the input cannot be read", ended, whole),
-        How::NotWritten => tell_failed(program, b"the output cannot be written", ended, whole),
+        How::NotRead => tell_failed(errors, program, b"the input cannot be read", ended, whole),
+        How::NotWritten => {
+            tell_failed(errors, program, b"the output cannot be written", ended, whole)
+        }
     }
-    give_ended(how, digit_of(status_of(how)));
+    give_ended(rt, how, digit_of(status_of(how)));
 }
 
 // The end of a program that was not used as it is meant to be: how it is used.
-pub fn tell_use(program: &[u8], use_line: &[u8]) {
-    io::write_all(STDERR_FILENO, program);
-    io::write_all(STDERR_FILENO, b": ");
-    io::write_all(STDERR_FILENO, use_line);
-    io::write_all(STDERR_FILENO, b"\n");
-    give_misused(digit_of(MISUSED));
+pub fn tell_use<R: Files, E: Write>(rt: &R, errors: &mut E, program: &[u8], use_line: &[u8]) {
+    say(&mut *errors, program);
+    say(&mut *errors, b": ");
+    say(&mut *errors, use_line);
+    say(&mut *errors, b"\n");
+    give_misused(rt, digit_of(MISUSED));
 }
 
 // The end of a program that has this status, behind all that it says.
-pub fn tell_status(status: u8) {
-    give_status(status, digit_of(status));
+pub fn tell_status<R: Files>(rt: &R, status: u8) {
+    give_status(rt, status, digit_of(status));
 }

@@ -6,32 +6,36 @@ ghost use Rattle.arguments.specs.declared.PinsWanted.TheVariants.{Wrong};
 ghost use Rattle.replay.specs.Program.{ReplayedAs};
 
 use arguments::{PinsWanted, pins_of};
-use libc::{STDIN_FILENO, STDOUT_FILENO};
 use stream::Ended;
 
 // How the replay that was asked for came to its end.
-fn tell_replayed(wanted: PinsWanted, ended: Ended)
+fn tell_replayed(rt: &HostRuntime, wanted: PinsWanted, ended: Ended)
     requires { ReplayedAs wanted ended }
 {
-    ending::tell_end(b"replay", ended);
+    ending::tell_end(rt, &mut rt.stderr(), b"replay", ended);
 }
 
 // Where nothing was asked for in so many words.
-fn tell_misused(wanted: PinsWanted)
+fn tell_misused(rt: &HostRuntime, wanted: PinsWanted)
     requires { wanted ≡ Wrong }
 {
-    ending::tell_use(b"replay", b"it takes no argument, or the word pins");
+    ending::tell_use(
+        rt,
+        &mut rt.stderr(),
+        b"replay",
+        b"it takes no argument, or the word pins",
+    );
 }
 
-fn main() {
-    let mut first = io::buffer();
-    let n = os::arg(1, &mut first);
+fn main(rt: HostRuntime) {
+    let mut first = [0u8; 4096];
+    let n = caller::word_at(&rt, 1, &mut first);
     // of a word that does not fit into its buffer the count is 0, and an empty word asks for nothing
-    let wanted = pins_of(os::arg_count(), &first[..n]);
+    let wanted = pins_of(caller::word_count(&rt), &first[..n]);
     let PinsWanted::Of(pins) = wanted else {
-        tell_misused(wanted);
+        tell_misused(&rt, wanted);
         return;
     };
-    let ended = stream::pump_replay(STDIN_FILENO, STDOUT_FILENO, pins);
-    tell_replayed(wanted, ended);
+    let ended = stream::pump_replay(&mut rt.stdin(), &mut rt.stdout(), pins);
+    tell_replayed(&rt, wanted, ended);
 }

@@ -1,4 +1,4 @@
-// The writes to standard output. No contract can say what is written: what a write came to is a value that only this module makes, so whoever
+// The writes of the sheet. No contract can say what is written: what a write came to is a value that only this module makes, so whoever
 // needs one has to hand over the sheet, whole.
 ghost use Rattle.std.specs.Prelude.{true, false, ◌≡◌};
 ghost use Rattle.sheetfile.specs.Format.{encode};
@@ -6,7 +6,7 @@ ghost use Rattle.sheetlines.specs.Lines.{month_text};
 ghost use Rattle.sheet.specs.Program.{no_sheet, written_status, PrintedOf};
 
 use crate::Gathering;
-use libc::STDOUT_FILENO;
+use std::io::Write;
 
 // Of what, as bytes or as text, and whether all of it was taken.
 #[derive(Clone, Copy)]
@@ -32,11 +32,11 @@ impl Printed {
 }
 
 // The text of a month.
-pub fn write_text(gathering: Gathering, text: &[u8]) -> Printed
+pub fn write_text<W: Write>(output: &mut W, gathering: Gathering, text: &[u8]) -> Printed
     requires { (text.now ≡ month_text gathering.month) × ¬ (gathering.status ≡ no_sheet) }
     ensures { PrintedOf false gathering result }
 {
-    let whole = io::write_all(STDOUT_FILENO, text);
+    let whole = output.write_all(text).is_ok();
     Printed {
         gathering,
         raw: false,
@@ -45,11 +45,11 @@ pub fn write_text(gathering: Gathering, text: &[u8]) -> Printed
 }
 
 // Its bytes.
-pub fn write_bytes(gathering: Gathering, bytes: &[u8]) -> Printed
+pub fn write_bytes<W: Write>(output: &mut W, gathering: Gathering, bytes: &[u8]) -> Printed
     requires { (bytes.now ≡ encode gathering.month) × ¬ (gathering.status ≡ no_sheet) }
     ensures { PrintedOf true gathering result }
 {
-    let whole = io::write_all(STDOUT_FILENO, bytes);
+    let whole = output.write_all(bytes).is_ok();
     Printed {
         gathering,
         raw: true,

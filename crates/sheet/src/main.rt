@@ -4,19 +4,21 @@
 
 mod handed;
 
-ghost use Rattle.std.specs.Prelude.{true, false, ◌≡◌, ◌-◌};
+ghost use Rattle.std.specs.Prelude.{true, false, ◌≡◌, ◌-◌, ◌≤◌, length};
 ghost use Rattle.arguments.specs.declared.SheetWanted.TheVariants.{Wrong};
 ghost use Rattle.sheet.specs.Program.{joins, raws, LogTaken, SheetTaken, Taken, added_status, month_after, behind, NameTaken, Gathered, no_sheet, status_behind, PrintedOf, PrintedAs};
 
 use arguments::{SheetWanted, sheet_of};
 use gathering::{Added, status_of, with_log, with_sheet, worse};
 use handed::{Printed, write_bytes, write_nothing, write_text};
-use libc::{STDERR_FILENO, STDIN_FILENO};
 use sheetfile::SIZE;
 use sheets::Month;
+use std::fs::File;
+use std::io::{Read, Write};
+use std::str;
 
-// Behind each name a byte goes there, for a caller that counts them.
-const DONE_FILENO: i32 = 5;
+// The link of descriptor 5: behind each name a byte goes there, for a caller that counts them.
+const DONE: &str = "/proc/self/fd/5";
 
 // The status behind something that is no sheet.
 const NO_SHEET: u8 = 2;
@@ -56,73 +58,102 @@ fn writes_bytes(wanted: SheetWanted) -> bool
 }
 
 // ---- a name
-// A month with the log at a descriptor.
-fn take_log(fd: i32, month: Month) -> Added
+// A month with the log that a reader gives.
+fn take_log<R: Read>(input: &mut R, month: Month) -> Added
     ensures { LogTaken month result }
 {
-    let ended = stream::pump_sheet(fd);
+    let ended = stream::pump_sheet(input);
     with_log(month, ended)
 }
 
-// A month with the sheet at a descriptor.
-fn take_sheet(fd: i32, month: Month) -> Added
+// Reads until some bytes are full, the input ends or a read fails: how many bytes came to the front.
+fn read_full<R: Read>(input: &mut R, bytes: &mut [u8]) -> usize
+    ensures { result ≤ length bytes.new }
+{
+    let mut done = 0;
+    while done < bytes.len() {
+        let n = input.read(&mut bytes[done..]).unwrap_or(0);
+        if n == 0 {
+            return done;
+        }
+        done += n;
+    }
+    done
+}
+
+// A month with the sheet that a reader gives.
+fn take_sheet<R: Read>(input: &mut R, month: Month) -> Added
     ensures { SheetTaken month result }
 {
-    let mut bytes = io::buffer();
-    let mut more = io::buffer();
-    let n = io::read_full(fd, &mut bytes);
+    let mut bytes = [0u8; 4096];
+    let mut more = [0u8; 4096];
+    let n = read_full(&mut *input, &mut bytes);
     // where the input has ended, it has ended for a second read too; else the first failed
     if n < bytes.len() {
-        if libc::read(fd, &mut more) != 0 {
-            return Added::NotRead;
+        match input.read(&mut more) {
+            Ok(0) => {}
+            _ => return Added::NotRead,
         }
     }
     with_sheet(month, &bytes[..n])
 }
 
-fn take(fd: i32, join: bool, month: Month) -> Added
+fn take<R: Read>(input: &mut R, join: bool, month: Month) -> Added
     ensures { Taken join month result }
 {
     if join {
-        take_sheet(fd, month)
+        take_sheet(input, month)
     } else {
-        take_log(fd, month)
+        take_log(input, month)
     }
 }
 
-// What has a name: - is standard input, which stays open.
-fn take_named(name: &[u8], join: bool, month: Month) -> Added
+// What stands in a file.
+fn take_file(rt: &HostRuntime, path: &str, join: bool, month: Month) -> Added
+    ensures { Taken join month result }
+{
+    match File::open(rt, path) {
+        Ok(mut file) => take(&mut file, join, month),
+        Err(_) => Added::NotRead,
+    }
+}
+
+// What has a name: - is standard input, which stays open. A name that is no UTF-8 opens nothing.
+fn take_named(rt: &HostRuntime, name: &[u8], join: bool, month: Month) -> Added
     ensures { Taken join month result }
 {
     if check::same(name, b"-") {
-        return take(STDIN_FILENO, join, month);
+        return take(&mut rt.stdin(), join, month);
     }
-    let fd = os::open_read(name);
-    if fd < 0 {
-        return Added::NotRead;
+    match str::from_utf8(name) {
+        Ok(path) => take_file(rt, path, join, month),
+        Err(_) => Added::NotRead,
     }
-    let added = take(fd, join, month);
-    libc::close(fd);
-    added
 }
 
-fn tell_of(name: &[u8], what: &[u8]) {
-    io::write_all(STDERR_FILENO, b"sheet: ");
-    io::write_all(STDERR_FILENO, name);
-    io::write_all(STDERR_FILENO, what);
-    io::write_all(STDERR_FILENO, b"\n");
+// Some bytes of a line on standard error.
+fn say(rt: &HostRuntime, bytes: &[u8]) {
+    let _ = rt.stderr().write_all(bytes);
+}
+
+fn tell_of(rt: &HostRuntime, name: &[u8], what: &[u8]) {
+    say(rt, b"sheet: ");
+    say(rt, name);
+    say(rt, what);
+    say(rt, b"\n");
 }
 
 // Why it is left out, where it is.
-fn tell_added(name: &[u8], added: Added) {
+fn tell_added(rt: &HostRuntime, name: &[u8], added: Added) {
     match added {
         Added::In(_) => {}
         Added::TooLarge => tell_of(
+            rt,
             name,
             b" is refused 15: a total would not fit; it is left out",
         ),
-        Added::NotRead => tell_of(name, b" cannot be read"),
-        Added::NoSheet => tell_of(name, b" is no sheet"),
+        Added::NotRead => tell_of(rt, name, b" cannot be read"),
+        Added::NoSheet => tell_of(rt, name, b" is no sheet"),
     }
 }
 
@@ -158,19 +189,19 @@ fn after(before: Gathering, added: Added) -> Gathering
 }
 
 // The word with this number is a name.
-fn take_word(i: usize, join: bool, before: Gathering) -> Gathering
+fn take_word(rt: &HostRuntime, i: usize, join: bool, before: Gathering) -> Gathering
     ensures { NameTaken join before result }
 {
-    let mut name = io::buffer();
-    let n = os::arg(i, &mut name);
-    let added = take_named(&name[..n], join, before.month);
-    tell_added(&name[..n], added);
-    io::write_all(DONE_FILENO, b".");
+    let mut name = [0u8; 4096];
+    let n = caller::word_at(rt, i, &mut name);
+    let added = take_named(rt, &name[..n], join, before.month);
+    tell_added(rt, &name[..n], added);
+    caller::put_byte(rt, DONE, b'.');
     after(before, added)
 }
 
 // All names, which stand behind two words.
-fn gather(count: usize, join: bool) -> Gathering
+fn gather(rt: &HostRuntime, count: usize, join: bool) -> Gathering
     ensures { Gathered join (count - 2) result }
 {
     let mut gathering = Gathering {
@@ -179,98 +210,100 @@ fn gather(count: usize, join: bool) -> Gathering
     };
     let mut i: usize = 2;
     while i < count {
-        gathering = take_word(i, join, gathering);
+        gathering = take_word(rt, i, join, gathering);
         i += 1;
     }
     gathering
 }
 
 // ---- the sheet
-fn print_text(gathering: Gathering) -> Printed
+fn print_text<W: Write>(output: &mut W, gathering: Gathering) -> Printed
     requires { ¬ (gathering.status ≡ no_sheet) }
     ensures { PrintedOf false gathering result }
 {
-    let mut text = io::buffer();
+    let mut text = [0u8; 4096];
     let to = sheetlines::put_month(&mut text, 0, gathering.month);
-    write_text(gathering, &text[..to])
+    write_text(output, gathering, &text[..to])
 }
 
-fn print_bytes(gathering: Gathering) -> Printed
+fn print_bytes<W: Write>(output: &mut W, gathering: Gathering) -> Printed
     requires { ¬ (gathering.status ≡ no_sheet) }
     ensures { PrintedOf true gathering result }
 {
-    let mut bytes = io::buffer();
+    let mut bytes = [0u8; 4096];
     sheetfile::write_month(&mut bytes, 0, gathering.month);
-    write_bytes(gathering, &bytes[..SIZE])
+    write_bytes(output, gathering, &bytes[..SIZE])
 }
 
 // Nothing is printed where something is no sheet.
-fn print(raw: bool, gathering: Gathering) -> Printed
+fn print<W: Write>(output: &mut W, raw: bool, gathering: Gathering) -> Printed
     ensures { PrintedOf raw gathering result }
 {
     if gathering.status == NO_SHEET {
         return write_nothing(raw, gathering);
     }
     if raw {
-        print_bytes(gathering)
+        print_bytes(output, gathering)
     } else {
-        print_text(gathering)
+        print_text(output, gathering)
     }
 }
 
 // A line where it could not be written.
-fn tell_written(status: u8) {
+fn tell_written(rt: &HostRuntime, status: u8) {
     if status != 0 {
-        tell_of(b"the output", b" cannot be written");
+        tell_of(rt, b"the output", b" cannot be written");
     }
 }
 
 // The status of all, told last.
-fn tell_status(printed: Printed, status: u8)
+fn tell_status(rt: &HostRuntime, printed: Printed, status: u8)
     requires { status ≡ status_behind printed }
 {
-    ending::tell_status(status);
+    ending::tell_status(rt, status);
 }
 
 // How the sheet that was asked for came to its end.
-fn tell_printed(count: usize, wanted: SheetWanted, printed: Printed)
+fn tell_printed(rt: &HostRuntime, count: usize, wanted: SheetWanted, printed: Printed)
     requires { PrintedAs (count - 2) wanted printed }
 {
     let gathering = printed.gathering();
     let written = printed.status();
-    tell_written(written);
+    tell_written(rt, written);
     let status = worse(gathering.status, status_of(gathering.month));
-    tell_status(printed, worse(status, written));
+    tell_status(rt, printed, worse(status, written));
 }
 
 // The sheet over all names.
-fn sheet(count: usize, wanted: SheetWanted) {
-    let gathering = gather(count, joins_sheets(wanted));
-    let printed = print(writes_bytes(wanted), gathering);
-    tell_printed(count, wanted, printed);
+fn sheet(rt: &HostRuntime, count: usize, wanted: SheetWanted) {
+    let gathering = gather(rt, count, joins_sheets(wanted));
+    let printed = print(&mut rt.stdout(), writes_bytes(wanted), gathering);
+    tell_printed(rt, count, wanted, printed);
 }
 
 // Where nothing was asked for in so many words.
-fn tell_misused(wanted: SheetWanted)
+fn tell_misused(rt: &HostRuntime, wanted: SheetWanted)
     requires { wanted ≡ Wrong }
 {
     ending::tell_use(
+        rt,
+        &mut rt.stderr(),
         b"sheet",
         b"it takes one of the words print, raw, join and join-raw, and names behind it",
     );
 }
 
-fn main() {
-    let mut first = io::buffer();
-    let n = os::arg(1, &mut first);
-    let count = os::arg_count();
+fn main(rt: HostRuntime) {
+    let mut first = [0u8; 4096];
+    let n = caller::word_at(&rt, 1, &mut first);
+    let count = caller::word_count(&rt);
     // of a word that does not fit into its buffer the count is 0, and an empty word asks for nothing
     let wanted = sheet_of(count, &first[..n]);
     match wanted {
-        SheetWanted::Wrong => tell_misused(wanted),
-        SheetWanted::Print => sheet(count, wanted),
-        SheetWanted::Raw => sheet(count, wanted),
-        SheetWanted::Join => sheet(count, wanted),
-        SheetWanted::JoinRaw => sheet(count, wanted),
+        SheetWanted::Wrong => tell_misused(&rt, wanted),
+        SheetWanted::Print => sheet(&rt, count, wanted),
+        SheetWanted::Raw => sheet(&rt, count, wanted),
+        SheetWanted::Join => sheet(&rt, count, wanted),
+        SheetWanted::JoinRaw => sheet(&rt, count, wanted),
     }
 }

@@ -1,25 +1,23 @@
 // Printing for the test programs. No contract can say what is written.
 #![tactic(auto)]
 
-use libc::STDOUT_FILENO;
+use std::io::Write;
 
-pub fn text(bytes: &[u8]) {
-    io::write_all(STDOUT_FILENO, bytes);
+pub fn text<W: Write>(out: &mut W, bytes: &[u8]) {
+    let _ = out.write_all(bytes);
 }
 
-pub fn number(n: u64) {
-    io::print_decimal(STDOUT_FILENO, n);
+pub fn number<W: Write>(out: &mut W, n: u64) {
+    let _ = write!(out, "{n}");
 }
 
-pub fn byte(byte: u8) {
-    io::print_hex(STDOUT_FILENO, byte as u64, 2);
+pub fn byte<W: Write>(out: &mut W, byte: u8) {
+    let _ = write!(out, "{byte:02x}");
 }
 
 // Bytes in hexadecimal.
-pub fn bytes(list: &[u8]) {
-    let mut i: usize = 0;
-    while i < list.len() {
-        byte(list[i]);
-        i += 1;
+pub fn bytes<W: Write>(out: &mut W, list: &[u8]) {
+    for one in list {
+        byte(out, *one);
     }
 }

@@ -3,16 +3,15 @@
 -- run is what stops the log, and it has come to where the log leads.
 -- Assumes nothing.
 use Prim.Native.Nat.{ℕ}
-use mathlib.Core.Bool.{Bool, true, false}
+use mathlib.Core.Bool.{true}
 use mathlib.Core.List.{List, [], ◌∷◌, ◌++◌, append-nil, append_assoc}
 use mathlib.Core.Path.{◌≡◌, refl, sym, ap, ◌∙◌}
 use native.Mathlib.Omega.{arith}
 use borrow.Author.Tests.{ne_eqb}
 use lib.Dec.{eqb}
 use lib.ListN.{length, drop}
-use Rattle.follow.specs.Follow.{run_of}
 use Rattle.follow.specs.Whole.{joined, printed_from, stop_from, led_to}
-use Rattle.follow.specs.declared.Next.TheVariants.{Wait, Full, Stop}
+use Rattle.follow.specs.declared.Next.TheVariants.{Wait, Stop}
 use Rattle.follow.proofs.Sources.{records-sound}
 use Rattle.follow.proofs.Stream.{Hearing, heard_from, run-heard, the-text, the_number, the-state, waits, run-due}
 use Rattle.follow.proofs.Whole.{joined-append}
@@ -24,7 +23,7 @@ use Rattle.window.specs.Window.{unused}
 use Rattle.window.specs.declared.Window.{Window}
 use Rattle.window.proofs.Places.{unused-past}
 use Rattle.stream.specs.declared.State.{State}
-use Rattle.stream.specs.Pump.{pump_start, ran_over, ran_to, ReadMore, Went, emptied, refilled, some_of, part_in, is_none, end_in, end_seen, TurnsDone, none, again, MayFollow}
+use Rattle.stream.specs.Pump.{ran_over, Went, emptied, refilled, some_of, part_in, is_none, end_in, end_seen, TurnsDone, none, again, MayFollow}
 
 joined-some : (part : List ℕ) → joined (some_of part) ≡ part
 joined-some [] = refl

@@ -25,7 +25,7 @@ use Rattle.window.proofs.Places.{unused-few, unused-past, past-within}
 use Rattle.stream.specs.declared.State.{State}
 use Rattle.stream.specs.declared.How.{How}
 use Rattle.stream.specs.declared.How.TheVariants.{On, Stopped, NotRead, NotWritten}
-use Rattle.stream.specs.Pump.{ran_over, after_run, ran_to, seeing, is_on, is_wait, how_after, ReadMore, Went, emptied, refilled, MoreReadAs, BehindRun, BehindWrite, TurnedAs}
+use Rattle.stream.specs.Pump.{ran_over, after_run, ran_to, seeing, is_on, is_wait, how_after, ReadMore, emptied, refilled, MoreReadAs, BehindRun, BehindWrite, TurnedAs}
 
 is-waiting : (n : Next) → is_wait n ≡ true → n ≡ Wait
 is-waiting Go e = let z : ◌≡◌ {A = ℕ} 0 1 = cc in absurd (omega arith)

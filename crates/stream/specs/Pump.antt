@@ -1,5 +1,5 @@
 -- How a log goes from its input through a job to its output: what the pump does around its two calls, read and write.
-use Rattle.std.specs.Prelude.{ℕ, suc, ◌≤◌, ◌≡◌, Bool, true, false, List, [], ◌∷◌, ◌++◌, length, eqb}
+use Rattle.std.specs.Prelude.{ℕ, suc, ◌≡◌, Bool, true, false, List, [], ◌∷◌, ◌++◌, length, eqb}
 use Rattle.laws.specs.Choice.{pick}
 use Rattle.follow.specs.Follow.{Turn, run_of}
 use Rattle.follow.specs.Whole.{joined, led_to}

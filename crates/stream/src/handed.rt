@@ -5,6 +5,7 @@ ghost use Rattle.jobs.specs.Job.{task_of};
 ghost use Rattle.stream.specs.Pump.{ran_over};
 
 use crate::State;
+use std::io::Write;
 
 // What the write of a text came to: whether all of it was taken.
 #[derive(Clone, Copy)]
@@ -21,8 +22,8 @@ impl Delivered {
 }
 
 // The text of a run over all that came and is not used, handed to the write: that text, whole.
-pub fn write_run(
-    output: i32,
+pub fn write_run<W: Write>(
+    output: &mut W,
     task: u8,
     state: State,
     buffer: &[u8],
@@ -32,6 +33,6 @@ pub fn write_run(
     requires { text.now ≡ (ran_over (task_of task) state buffer.now room).text }
 {
     Delivered {
-        whole: io::write_all(output, text),
+        whole: output.write_all(text).is_ok(),
     }
 }

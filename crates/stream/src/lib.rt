@@ -1,4 +1,4 @@
-// Pumps a log from one descriptor through a job, which follows it, to another. No contract can say what is read or written: of the two
+// Pumps a log from a reader through a job, which follows it, to a writer. No contract can say what is read or written: of the two
 // calls this says what they are handed and what is made of what they give; every byte of the text is the job's.
 #![tactic(auto)]
 
@@ -16,10 +16,9 @@ use answers::Asked;
 use follow::Next;
 use handed::{Delivered, write_run};
 use jobs::{ANSWER, Job, REPLAY, Ran, SHEET, Task, run, task_of};
+use std::io;
+use std::io::{Read, Write};
 use window::{Window, refill};
-
-// No descriptor.
-const NOWHERE: i32 = -1;
 
 // The job, as it is behind the text that is written; and the window of the buffer, where the bytes of the input stand that are there and
 // not used.
@@ -52,6 +51,13 @@ pub struct Ended {
 struct Turned {
     how: How,
     state: State,
+}
+
+// 65,536 zeros, so that a log is moved by few calls.
+fn large_buffer() -> [u8; 65536]
+    ensures { 65536 ≡ length result }
+{
+    [0; 65536]
 }
 
 // Before the first read.
@@ -88,7 +94,7 @@ fn after_run(state: State, ran: Ran) -> State
 }
 
 // More of the input behind what is not used.
-fn read_more(input: i32, state: State, buffer: &mut [u8]) -> Turned
+fn read_more<R: Read>(input: &mut R, state: State, buffer: &mut [u8]) -> Turned
     ensures { MoreReadAs result.how state buffer.old result.state buffer.new }
 {
     let more = refill(input, state.window, buffer);
@@ -132,9 +138,9 @@ fn how_after(next: Next, refusal: u8) -> How
 }
 
 // Behind a run and the write of its text: where the text is not written whole, the pump ends; and where the run waits for more, a read.
-fn after_write(
+fn after_write<R: Read>(
     delivered: Delivered,
-    input: i32,
+    input: &mut R,
     state: State,
     ran: Ran,
     buffer: &mut [u8],
@@ -159,9 +165,9 @@ fn after_write(
 }
 
 // One run, its text, and where the run waits for more, a read.
-fn turn(
-    input: i32,
-    output: i32,
+fn turn<R: Read, W: Write>(
+    input: &mut R,
+    output: &mut W,
     task: u8,
     state: State,
     buffer: &mut [u8],
@@ -200,16 +206,23 @@ fn ended_at(task: u8, how: How, state: State) -> Ended
     }
 }
 
-// What a job prints of the log at one descriptor, at its task, written to another (jobs::run says why the task goes beside the job).
-fn pump(input: i32, output: i32, task: u8, job: Job) -> Ended
+// What a job prints of the log that a reader gives, at its task, handed to a writer (jobs::run says why the task goes beside the job).
+fn pump<R: Read, W: Write>(input: &mut R, output: &mut W, task: u8, job: Job) -> Ended
     ensures { PumpedAs result.how (printed_by (task_of task) job) (task_of task) job result }
 {
-    let mut buffer = io::large_buffer();
-    let mut text = io::large_buffer();
+    let mut buffer = large_buffer();
+    let mut text = large_buffer();
     let mut state = begin(job);
     let mut turns = u64::MAX;
     while 0 < turns {
-        let turned = turn(input, output, task, state, &mut buffer, &mut text);
+        let turned = turn(
+            &mut *input,
+            &mut *output,
+            task,
+            state,
+            &mut buffer,
+            &mut text,
+        );
         state = turned.state;
         let how = turned.how;
         if !goes_on(how) {
@@ -220,25 +233,26 @@ fn pump(input: i32, output: i32, task: u8, job: Job) -> Ended
     ended_at(task, How::On, state)
 }
 
-// The replay of the log at one descriptor, written to another. pins says whether the pins stand behind every record's line.
-pub fn pump_replay(input: i32, output: i32, pins: bool) -> Ended
+// The replay of the log that a reader gives, handed to a writer. pins says whether the pins stand behind every record's line.
+pub fn pump_replay<R: Read, W: Write>(input: &mut R, output: &mut W, pins: bool) -> Ended
     ensures { PumpedAs result.how (Replay_printed pins) Task.Replay (to_replay pins) result }
 {
     pump(input, output, REPLAY, Job::to_replay(pins))
 }
 
-// The answer to what is asked of the log at one descriptor, written to another.
-pub fn pump_answer(input: i32, output: i32, asked: Asked) -> Ended
+// The answer to what is asked of the log that a reader gives, handed to a writer.
+pub fn pump_answer<R: Read, W: Write>(input: &mut R, output: &mut W, asked: Asked) -> Ended
     ensures { PumpedAs result.how (Answer_printed asked) Task.Answer (to_answer asked) result }
 {
     pump(input, output, ANSWER, Job::to_answer(asked))
 }
 
-// The sheet of the log at a descriptor, in the job that is handed back. Nothing is printed, so nothing is written to any descriptor.
-pub fn pump_sheet(input: i32) -> Ended
+// The sheet of the log that a reader gives, in the job that is handed back. Nothing is printed, so nothing is written anywhere.
+pub fn pump_sheet<R: Read>(input: &mut R) -> Ended
     ensures { PumpedAs result.how (printed_by Task.Sheet to_sheet) Task.Sheet to_sheet result }
 {
-    pump(input, NOWHERE, SHEET, Job::to_sheet())
+    let mut nowhere = io::sink();
+    pump(input, &mut nowhere, SHEET, Job::to_sheet())
 }
 
 // The status of a program that came to its end so: 0 done, 1 input or output failed, 3 a log that was refused.
