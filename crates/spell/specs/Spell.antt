@@ -1,6 +1,6 @@
 -- Q-5: a condition that is met "at each sample for" a time, and its alarm. A run begins with the stopwatch that is given as fresh: low-g's
 -- and high-g's is a stopped one.
-use Rattle.std.specs.Prelude.{ℕ, Bool, true, false}
+use Rattle.std.specs.Prelude.{ℕ, Bool, false}
 use Rattle.laws.specs.Choice.{pick}
 use Rattle.alarm.specs.Alarm.{off, raised, cleared, lapse_of}
 use Rattle.alarm.specs.declared.Lapse.{Lapse}
