@@ -1,6 +1,7 @@
 -- 01, "one thin entry that borrows the harness's own record and updates it for one event".
 use Rattle.std.specs.Prelude.{ℕ, ◌+◌, ◌*◌, List, [], ◌∷◌, ℤ}
 use Rattle.std.proofs.Math.Option.{Option, some, none}
+use denote.Memory.{lone}
 use mir.Syntax.{Ty, tcons, tnil, ty_struct, ty_array, ty_int, w8}
 use Rattle.laws.specs.Keys.{Key, ◌means◌, meaning_of}
 use Rattle.registers.specs.Answers.{number}
@@ -8,7 +9,7 @@ use Rattle.interrupts.specs.declared.Level.{Level}
 use Rattle.interrupts.specs.declared.Level.TheVariants.{Low, High, Released}
 use Rattle.device.specs.Show.{pins_of}
 use Rattle.fifo.specs.Store.{room}
-use Rattle.device.proofs.parts.Core.TheLaws.{mir as core_type}
+use Rattle.device.specs.contracts.parts.Core as core
 use Rattle.device.specs.Parts.{whole}
 use Rattle.device.specs.declared.Device.{Device}
 use Rattle.device.specs.declared.Answered.{Answered}
@@ -25,7 +26,7 @@ device_in h = whole h.core h.regs h.frames
 
 -- how it lies in memory: registers, core and store, one after another
 abbrev pub harness_type : Ty
-harness_type = ty_struct [] (tcons (ty_array (ty_int w8) 64) (tcons core_type (tcons (ty_array (ty_int w8) room) tnil)))
+harness_type = ty_struct [] (tcons (ty_array (ty_int w8) 64) (tcons (lone (core.the_row).mir) (tcons (ty_array (ty_int w8) room) tnil)))
 
 -- "1 write (address, byte; ..), 2 read (address, count; ..), 3 sample (x, y, z .., temperature; ..), 4 cycle start", and Q-4: "Add a
 -- clock event with a 32-bit count of microseconds to the device, and log kind 5": the event of a kind, an address, a byte, which is

@@ -1,5 +1,6 @@
 // The thin entry of 01 for the bench harness: it borrows the harness's own record and updates it for one event.
-// C calls these functions through library/entry.c, which looks at pointers first; the 4 in their names is the header's major version.
+// C calls these functions by their names: the crate twin_c exports each, and library/entry.c looks at pointers first. The 4 in their names
+// is the header's major version.
 #![tactic(auto)]
 
 ghost use Rattle.std.specs.Prelude.{◌≡◌, ℕ, List, length};
@@ -45,6 +46,7 @@ fn numbered(done: CoreAnswered) -> Stepped
 
 // One event, by its kind in the log: a write of a byte, a read of as many bytes as the buffer has, a sample whose temperature is the
 // byte, the start of a cycle, or a clock of so many microseconds. Any other kind is refused. The registers and the FIFO's store are lent.
+#[tactic(auto, unfolding(crate::specs::Entry::asked))]
 pub fn step(
     core: Core,
     regs: &mut [u8; 64],
@@ -87,6 +89,7 @@ fn level_code(level: Level) -> u8
 }
 
 // Both pin levels in one byte: INT1 in bits 1:0, INT2 in bits 3:2.
+#[tactic(auto, unfolding(crate::specs::Entry::pins_code))]
 pub fn pins_code(core: Core, regs: [u8; 64]) -> u8
     ensures { (frames : List ℕ) → result ≡ pins_code (whole core regs frames) }
 {
@@ -110,8 +113,7 @@ impl Harness {
 }
 
 // One event, on the harness's own record: its registers and its store are lent where they lie, and the core goes by value.
-#[unsafe(no_mangle)]
-pub extern "C" fn twin_4_proved_event(
+pub fn twin_4_proved_event(
     d: &mut Harness,
     kind: u8,
     address: u8,
@@ -144,31 +146,27 @@ pub extern "C" fn twin_4_proved_event(
 }
 
 // Power-up of the harness's own record.
-#[unsafe(no_mangle)]
-pub extern "C" fn twin_4_proved_power_up(d: &mut Harness)
+pub fn twin_4_proved_power_up(d: &mut Harness)
     ensures { device_in d.new ≡ power_up }
 {
     *d = Harness::power_up();
 }
 
 // The pins of the harness's own record.
-#[unsafe(no_mangle)]
-pub extern "C" fn twin_4_proved_pins(d: &Harness) -> u8
+pub fn twin_4_proved_pins(d: &Harness) -> u8
     ensures { result ≡ pins_code (device_in d.now) }
 {
     pins_code(d.core, d.regs)
 }
 
 // The bytes of the record, and what its address must be a multiple of.
-#[unsafe(no_mangle)]
-pub extern "C" fn twin_4_proved_size() -> usize
+pub fn twin_4_proved_size() -> usize
     ensures { result ≡ size harness_type }
 {
     352
 }
 
-#[unsafe(no_mangle)]
-pub extern "C" fn twin_4_proved_alignment() -> usize
+pub fn twin_4_proved_alignment() -> usize
     ensures { result ≡ align harness_type }
 {
     4
