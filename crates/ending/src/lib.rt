@@ -71,7 +71,13 @@ pub fn tell_end<R: Files, E: Write>(rt: &R, errors: &mut E, program: &[u8], ende
         How::Stopped(_) => {}
         How::NotRead => tell_failed(errors, program, b"the input cannot be read", ended, whole),
         How::NotWritten => {
-            tell_failed(errors, program, b"the output cannot be written", ended, whole)
+            tell_failed(
+                errors,
+                program,
+                b"the output cannot be written",
+                ended,
+                whole,
+            )
         }
     }
     give_ended(rt, how, digit_of(status_of(how)));
