@@ -94,18 +94,18 @@ module _ (l : Lasting) (lawful : Lawful (watch l)) (es : List Event) (fresh : po
         let q : microseconds_at e ≡ us = ap microseconds_at is in
         record {
           lasts = rw s (omega (arith, clock-more l.is_met us (seen (watch l) before), b.lasts, q));
-          set = rw (same k) (rw (s, k) (λ h. omega (arith, b.set h)));
+          set = rw (same k) (rw (k, s) (λ h. omega (arith, b.set h)));
         }
     step (one p n r f s) =
         let k = kept (watch l) lawful before e r in
         let short = point-more l.is_met p (seen (watch l) before) in
         record {
           lasts = rw s (omega (arith, short, b.lasts));
-          set = rw (same k) (rw (s, k) (at-point p short));
+          set = rw (same k) (rw (k, s) (at-point p short));
         }
     step (none c n r f s) =
         let k = kept (watch l) lawful before e r in
-        record { lasts = rw s (omega (arith, b.lasts)); set = rw (same k) (rw (s, k) (λ h. omega (arith, b.set h))) }
+        record { lasts = rw s (omega (arith, b.lasts)); set = rw (same k) (rw (k, s) (λ h. omega (arith, b.set h))) }
 
   short : (later : List Event) → Short later
   short [] = first
