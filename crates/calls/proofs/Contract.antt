@@ -28,12 +28,12 @@ handed_by κs a = record {
 abbrev pub seen_at : (κs : Lfts 2) → Res twin-event.signature κs → AtExit twin-event.ended κs → Seen
 seen_at κs r e = record { number = r; buffer = e.1.1.1.1.1.1.1.0.now }
 
-pub event-contract : ◌≡◌ {A = SourceClauses twin-event.ended} (λ M. twin-event.clauses)
+pub event-contract : ◌≡◌ {A = SourceClauses twin-event.ended} (λ M 𝓤. twin-event.clauses)
     (promised twin-event.ended (λ κs a r e. Leaves (device_in a.0.now) (handed_by κs a) (seen_at κs r e) (device_in e.0.now)))
 event-contract = refl
 
-pub power-up-contract : ◌≡◌ {A = SourceClauses twin-power-up.ended} (λ M. twin-power-up.clauses) (promised twin-power-up.ended (λ κs a r e. device_in e.0.now ≡ device.power_up))
+pub power-up-contract : ◌≡◌ {A = SourceClauses twin-power-up.ended} (λ M 𝓤. twin-power-up.clauses) (promised twin-power-up.ended (λ κs a r e. device_in e.0.now ≡ device.power_up))
 power-up-contract = refl
 
-pub pins-contract : ◌≡◌ {A = SourceClauses twin-pins.ended} (λ M. twin-pins.clauses) (promised twin-pins.ended (λ κs a r e. r ≡ pins_code (device_in a.0.now)))
+pub pins-contract : ◌≡◌ {A = SourceClauses twin-pins.ended} (λ M 𝓤. twin-pins.clauses) (promised twin-pins.ended (λ κs a r e. r ≡ pins_code (device_in a.0.now)))
 pins-contract = refl

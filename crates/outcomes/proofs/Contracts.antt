@@ -85,31 +85,31 @@ alone d e h {after} p q =
     record { exactly = t.exactly; unchanged = λ r. ap (λ (x : Device × List ℕ). x.0) (t.unchanged r) }
 
 -- the device in parts: a write, a read into a buffer of any length, a sample, a cycle start and a clock
-pub core-write-tabled : Promises core-write.ended (λ M. core-write.clauses) (λ κs a r e.
+pub core-write-tabled : Promises core-write.ended (λ M 𝓤. core-write.clauses) (λ κs a r e.
     let d = whole a.0 a.1.0.now a.1.1.0.now in
     Alone-tabled d (write a.1.1.1.0 a.1.1.1.1.0) (answered_whole r e.1.0.now e.1.1.0.now))
 core-write-tabled = says (λ κs a r e p.
     alone (whole a.0 a.1.0.now a.1.1.0.now) (write a.1.1.1.0 a.1.1.1.1.0) tt p refl)
 
-pub core-read-tabled : Promises core-read.ended (λ M. core-read.clauses) (λ κs a r e.
+pub core-read-tabled : Promises core-read.ended (λ M 𝓤. core-read.clauses) (λ κs a r e.
     let d = whole a.0 a.1.0.now a.1.1.0.now in
     let buffer = a.1.1.1.1.0.now in
     Event-tabled d (read a.1.1.1.0 (length buffer)) buffer (answered_whole r a.1.0.now e.1.1.0.now) e.1.1.1.1.0.now)
 core-read-tabled = says (λ κs a r e p.
     lending (whole a.0 a.1.0.now a.1.1.0.now) (read a.1.1.1.0 (length a.1.1.1.1.0.now)) a.1.1.1.1.0.now refl p.0 p.1)
 
-pub core-sample-tabled : Promises core-sample.ended (λ M. core-sample.clauses) (λ κs a r e.
+pub core-sample-tabled : Promises core-sample.ended (λ M 𝓤. core-sample.clauses) (λ κs a r e.
     let d = whole a.0 a.1.0.now a.1.1.0.now in
     Alone-tabled d (sample a.1.1.1.0 a.1.1.1.1.0 a.1.1.1.1.1.0 a.1.1.1.1.1.1.0) (answered_whole r a.1.0.now e.1.1.0.now))
 core-sample-tabled = says (λ κs a r e p.
     alone (whole a.0 a.1.0.now a.1.1.0.now) (sample a.1.1.1.0 a.1.1.1.1.0 a.1.1.1.1.1.0 a.1.1.1.1.1.1.0) tt p refl)
 
 -- these two are lent neither registers nor store: with any
-pub core-cycle-tabled : Promises core-cycle.ended (λ M. core-cycle.clauses) (λ κs a r e.
+pub core-cycle-tabled : Promises core-cycle.ended (λ M 𝓤. core-cycle.clauses) (λ κs a r e.
     (regs frames : List ℕ) → Alone-tabled (whole a.0 regs frames) cycle (answered_whole r regs frames))
 core-cycle-tabled = says (λ κs a r e p regs frames. alone (whole a.0 regs frames) cycle tt (p regs frames) refl)
 
-pub core-clock-tabled : Promises core-clock.ended (λ M. core-clock.clauses) (λ κs a r e.
+pub core-clock-tabled : Promises core-clock.ended (λ M 𝓤. core-clock.clauses) (λ κs a r e.
     (regs frames : List ℕ) → Alone-tabled (whole a.0 regs frames) (clock a.1.0) (answered_whole r regs frames))
 core-clock-tabled = says (λ κs a r e p regs frames. alone (whole a.0 regs frames) (clock a.1.0) tt (p regs frames) refl)
 
@@ -122,7 +122,7 @@ askable (entry.Sample s) buffer = tt
 askable (entry.CycleStart c) buffer = tt
 askable (entry.Clock k) buffer = tt
 
-pub play-tabled : Promises play.ended (λ M. play.clauses) (λ κs a r e.
+pub play-tabled : Promises play.ended (λ M 𝓤. play.clauses) (λ κs a r e.
     let d = whole a.0 a.1.0.now a.1.1.0.now in
     let buffer = a.1.1.1.1.0.now in
     Event-tabled d (event_into (length buffer) a.1.1.1.0) buffer (answered_whole r e.1.0.now e.1.1.0.now) e.1.1.1.1.0.now)
@@ -132,37 +132,37 @@ play-tabled = says (λ κs a r e p.
     lending (whole a.0 a.1.0.now a.1.1.0.now) (event_into (length buffer) x) buffer (askable x buffer) p.0 p.1)
 
 -- the device by value
-pub write-tabled : Promises write-contract.ended (λ M. write-contract.clauses) (λ κs a r e. Alone-tabled a.0 (write a.1.0 a.1.1.0) r)
+pub write-tabled : Promises write-contract.ended (λ M 𝓤. write-contract.clauses) (λ κs a r e. Alone-tabled a.0 (write a.1.0 a.1.1.0) r)
 write-tabled = says (λ κs a r e p. alone a.0 (write a.1.0 a.1.1.0) tt p refl)
 
-pub read-tabled : Promises read-contract.ended (λ M. read-contract.clauses) (λ κs a r e.
+pub read-tabled : Promises read-contract.ended (λ M 𝓤. read-contract.clauses) (λ κs a r e.
     let buffer = a.1.1.0.now in Event-tabled a.0 (read a.1.0 (length buffer)) buffer r e.1.1.0.now)
 read-tabled = says (λ κs a r e p. lending a.0 (read a.1.0 (length a.1.1.0.now)) a.1.1.0.now refl p.0 p.1)
 
-pub sample-tabled : Promises sample-contract.ended (λ M. sample-contract.clauses) (λ κs a r e.
+pub sample-tabled : Promises sample-contract.ended (λ M 𝓤. sample-contract.clauses) (λ κs a r e.
     Alone-tabled a.0 (sample a.1.0 a.1.1.0 a.1.1.1.0 a.1.1.1.1.0) r)
 sample-tabled = says (λ κs a r e p. alone a.0 (sample a.1.0 a.1.1.0 a.1.1.1.0 a.1.1.1.1.0) tt p refl)
 
-pub cycle-tabled : Promises cycle-contract.ended (λ M. cycle-contract.clauses) (λ κs a r e. Alone-tabled a.0 cycle r)
+pub cycle-tabled : Promises cycle-contract.ended (λ M 𝓤. cycle-contract.clauses) (λ κs a r e. Alone-tabled a.0 cycle r)
 cycle-tabled = says (λ κs a r e p. alone a.0 cycle tt p refl)
 
-pub clock-tabled : Promises clock-contract.ended (λ M. clock-contract.clauses) (λ κs a r e. Alone-tabled a.0 (clock a.1.0) r)
+pub clock-tabled : Promises clock-contract.ended (λ M 𝓤. clock-contract.clauses) (λ κs a r e. Alone-tabled a.0 (clock a.1.0) r)
 clock-tabled = says (λ κs a r e p. alone a.0 (clock a.1.0) tt p refl)
 
 -- ---- the log's. A reader is lent the log to read alone
-pub read-version-tabled : Promises read-version.ended (λ M. read-version.clauses) (λ κs a r e.
+pub read-version-tabled : Promises read-version.ended (λ M 𝓤. read-version.clauses) (λ κs a r e.
     Tabled ℕ (DueAtStart a.0.now) (begins_number r.begins) 0 r.next)
 read-version-tabled = says (λ κs a r e p. rw p (demand1.at-start a.0.now))
 
-pub read-entry-tabled : Promises read-entry.ended (λ M. read-entry.clauses) (λ κs a r e.
+pub read-entry-tabled : Promises read-entry.ended (λ M 𝓤. read-entry.clauses) (λ κs a r e.
     Tabled ℕ (DueAtPlace (drop a.1.0 a.0.now)) (found_number r.found) a.1.0 r.next)
 read-entry-tabled = says (λ κs a r e p. rw p (demand1.at_place a.0.now a.1.0))
 
-pub write-version-tabled : Promises write-version.ended (λ M. write-version.clauses) (λ κs a r e.
+pub write-version-tabled : Promises write-version.ended (λ M 𝓤. write-version.clauses) (λ κs a r e.
     Tabled (List ℕ × ℕ) (10 when NoRoomForVersion a.0.now a.1.0 else done) (room_number r.room) (a.0.now, a.1.0) (e.0.now, r.next))
 write-version-tabled = says (λ κs a r e p. rw (p.0, p.1) (demand1.version-room a.0.now a.1.0))
 
-pub write-entry-tabled : Promises write-entry.ended (λ M. write-entry.clauses) (λ κs a r e.
+pub write-entry-tabled : Promises write-entry.ended (λ M 𝓤. write-entry.clauses) (λ κs a r e.
     Tabled (List ℕ × ℕ) (10 when NoRoomForRecord a.0.now a.1.0 a.1.1.0 else done) (room_number r.room) (a.0.now, a.1.0) (e.0.now, r.next))
 write-entry-tabled = says (λ κs a r e p. rw (p.0, p.1, encode-spelled a.1.1.0) (demand1.record-room a.0.now a.1.0 a.1.1.0))
 
@@ -218,10 +218,10 @@ module _ (begun : Bool) (log : List ℕ) (room : ℕ) (last : Bool) where
       go false false true begins.Empty due = λ _. due
       go false false false b due = no_stop refl
 
-pub open-log-stops : Promises open-log.ended (λ M. open-log.clauses) (λ κs a r e. (halt_on r).next ≡ Stop → DueAtStart a.1.0.now (halt_on r).refusal)
+pub open-log-stops : Promises open-log.ended (λ M 𝓤. open-log.clauses) (λ κs a r e. (halt_on r).next ≡ Stop → DueAtStart a.1.0.now (halt_on r).refusal)
 open-log-stops = says (λ κs a r e p.
     subst (Opened-due a.0 a.1.0.now a.1.1.0 a.1.1.1.0) (sym p) (opened-due a.0 a.1.0.now a.1.1.0 a.1.1.1.0))
 
-pub seek-stops : Promises seek.ended (λ M. seek.clauses) (λ κs a r e. (halt_in r).next ≡ Stop → DueAtPlace (drop a.1.0 a.0.now) (halt_in r).refusal)
+pub seek-stops : Promises seek.ended (λ M 𝓤. seek.clauses) (λ κs a r e. (halt_in r).next ≡ Stop → DueAtPlace (drop a.1.0 a.0.now) (halt_in r).refusal)
 seek-stops = says (λ κs a r e p.
     subst (Sought-due a.0.now a.1.0 a.1.1.0 a.1.1.1.0) (sym p) (sought-due a.0.now a.1.0 a.1.1.0 a.1.1.1.0))
