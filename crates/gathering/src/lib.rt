@@ -29,6 +29,7 @@ fn added_of(joined: MonthJoined) -> Added
 }
 
 // With the log of a pump that came to its end so: where it was read as far as it goes, with the sheet of what came.
+#[tactic(auto, unfolding(crate::specs::Gathering::log_added))]
 pub fn with_log(month: Month, ended: Ended) -> Added
     ensures { result ≡ log_added month ended }
 {
@@ -43,6 +44,7 @@ pub fn with_log(month: Month, ended: Ended) -> Added
 }
 
 // With the sheet that bytes are.
+#[tactic(auto, unfolding(crate::specs::Gathering::sheet_added))]
 pub fn with_sheet(month: Month, bytes: &[u8]) -> Added
     ensures { result ≡ sheet_added month bytes.now }
 {
@@ -67,6 +69,7 @@ fn rank_of(status: u8) -> u8
 }
 
 // That of two which goes before the other.
+#[tactic(auto, unfolding(crate::specs::Gathering::worse_of))]
 pub fn worse(one: u8, other: u8) -> u8
     ensures { result ≡ worse_of one other }
 {
@@ -78,6 +81,7 @@ pub fn worse(one: u8, other: u8) -> u8
 }
 
 // Of a month in which some log was refused, 3.
+#[tactic(auto, unfolding(crate::specs::Gathering::month_status))]
 pub fn status_of(month: Month) -> u8
     ensures { result ≡ month_status month }
 {
