@@ -1,6 +1,6 @@
 # For scripts that time the twin against the C twin of peer/. Both run in turn, many short runs of each, so that they meet the same
-# machine; processor time counts, the best run of each is taken, and what a start costs (the kit's loader and, on another kind of
-# machine, its emulator) is subtracted. Other work on the machine slows the two sides unlike: where there is any, a script says so.
+# machine; processor time counts, the best run of each is taken, and what a start costs is subtracted. Other work on the machine slows the
+# two sides unlike: where there is any, a script says so.
 # Needs $room, a folder.
 least=15 most=40
 gcc -std=c11 -O2 -Wall -Wextra -o "$room/once" bench/once.c

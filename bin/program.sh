@@ -1,6 +1,7 @@
 # For the commands of bin/: finds the checkout that a command belongs to, also through links, proves and builds what it needs, and runs
 # a proved program. A command sets name, its own, and crate and what, the crate that it needs and whether as program or as library, and
-# reads this. Nothing outside the checkout is written, nothing of the current folder is run, and the caller's locale changes nothing.
+# reads this. Nothing outside the checkout is written but what rt itself keeps, nothing of the current folder is run, and the caller's
+# locale changes nothing.
 LC_ALL=C
 export LC_ALL
 at_once() { set -s && trap : INT && trap - INT; } # dash catches INT and waits for what it started, but not with this option of its own
@@ -19,14 +20,14 @@ say() {
 
 case ${here:-} in */bin/"$name") ;; *) here=$(readlink -f "$0") ;; esac # which a command that has found itself need not do twice
 top=${here%/*/*} && [ -f "$top/crates.txt" ] || { say "the checkout that $0 belongs to cannot be found"; exit 2; }
-case $what in
-program) how=check made=$top/target/bin/$crate ;;
-library) how=staticlib made=$top/target/staticlib/lib$crate.a ;;
+case $what in # how rt builds it, in the crate's folder, and what comes of that there; and where it is kept: a library under the name for C
+program) how=run built=out/$crate kept_as=$crate made=$top/target/bin/$crate ;;
+library) how=lib built=out/lib$crate.a kept_as=${crate%_c} made=$top/target/staticlib/lib${crate%_c}.a ;;
 esac
-stamp=$top/target/$crate.stamp # of what it is made of, and what it is
-touched=$top/target/$crate.touched # of when that was last touched
-kept=$top/target/$crate.kept # the one before, while another is proved
-report=$top/target/$crate.log
+built=$top/crates/$crate/$built
+stamp=$top/target/$kept_as.stamp # of what it is made of, and what it is
+touched=$top/target/$kept_as.touched # of when that was last touched
+report=$top/target/$kept_as.log
 lock=$top/target/lock
 loader=/lib64/ld-linux-x86-64.so.2
 
@@ -58,27 +59,29 @@ stamped() { behind "$1"; printf '%s\n' "$value"; } # WORD: the same, printed
 # The kit: that of the command rt, or the one that was built with where there is no rt, or where its rt is the same.
 behind 'kit at'
 kit=$value stamped_kit=$value
-if [ -n "${RATTLE_HOME:-}" ] && [ -n "$rt" ]; then kit=$RATTLE_HOME; fi
-if [ -n "$rt" ] && [ -z "${RATTLE_HOME:-}" ] && ! [ "$kit/bin/rt" -ef "$rt" ]; then rt=$(readlink -f "$rt") kit=${rt%/*/*}; fi
+if [ -n "$rt" ] && ! [ "$kit/bin/rt" -ef "$rt" ]; then rt=$(readlink -f "$rt") kit=${rt%/*/*}; fi
 [ -f "$kit/KIT-ID" ] || kit=
-{ read -r machine </proc/sys/kernel/arch; } 2>/dev/null || machine=$(uname -m)
-tools=$kit/on/$machine/toolchain
+tools=$kit/toolchain
 
 # ---- what a command needs, proved and built
 
-# the crates that a crate rests on, itself among them
+# the crates that a crate rests on, and itself, in the order in which rt builds them
 crates_of() { # NAME
     awk -v want="$1" '
-    /^[a-z]/ { split($0, part, ":"); rests[part[1]] = part[2] }
-    function add(c, i, n, list) { if (!(c in rests) || (c in have)) return; have[c] = 1; n = split(rests[c], list, " "); for (i = 1; i <= n; i++) add(list[i]) }
-    END { add(want); for (c in have) print c }' "$top/crates.txt" | sort
+    /^[a-z]/ { split($0, part, ":"); split(part[1], word, " "); rests[word[1]] = part[2] }
+    function add(c, i, n, list) { if (!(c in rests) || (c in have)) return; have[c] = 1; n = split(rests[c], list, " "); for (i = 1; i <= n; i++) add(list[i]); print c }
+    END { add(want) }' "$top/crates.txt"
 }
 
-# What it is made of: the files that rt takes. Others beside them, as an editor leaves them, do not count.
+# What it is made of: the files that rt takes. Others beside them, as an editor leaves them, do not count, nor what rt itself keeps in out.
 folders() { crates_of "$crate" | sed 's|^|crates/|'; }
-counted() { # FIND'S ACTION..: in the checkout
-    find -H $(folders) -name must-fail -prune -o -type f \( -name '*.rt' -o -name '*.antt' \
-        -o -path 'crates/*/stdin' -o -path 'crates/*/stdout' -o -path 'crates/*/args' -o -path 'crates/*/data/*' \) "$@"
+within() { # FIND'S WORDS..: in the checkout
+    find -H $(folders) \( -name must-fail -o -path 'crates/*/out' ! -path 'crates/*/*/out' \) -prune -o "$@"
+}
+counted() { # FIND'S ACTION..
+    within -type f \( -name '*.rt' -o -name '*.antt' \
+        -o -path 'crates/*/stdin' -o -path 'crates/*/stdout' -o -path 'crates/*/args' -o -path 'crates/*/status' \
+        -o -path 'crates/*/data/*' \) "$@"
 }
 
 # Its sums: of the sources, of its own bytes, and the kit.
@@ -107,7 +110,7 @@ same_kit() {
     { IFS= read -r id <"$kit/KIT-ID"; } 2>/dev/null && [ "$kit" = "$stamped_kit" ] && behind kit && [ "$value" = "$id" ]
 }
 states_now() (
-    now=$(date +%s) && cd "$top" && names=$({ find -H $(folders) -name must-fail -prune -o -type d -print; counted -print; } | sed 's|^crates/||' | sort) || exit
+    now=$(date +%s) && cd "$top" && names=$({ within -type d -print; counted -print; } | sed 's|^crates/||' | sort) || exit
     names="../crates.txt $names"
     case $names in *[!A-Za-z0-9_./[:space:]-]*) exit 1 ;; esac
     cd crates && states=$(states $names) || exit
@@ -129,7 +132,7 @@ fits() {
 product() { sed -n 's/^#define TWIN_VERSION "\(.*\)"$/\1/p' "$top/include/twin.h"; }
 commit_now() (
     cd "$top" && commit=$(git rev-parse --short HEAD 2>/dev/null) && [ -z "$(git rev-parse --show-prefix)" ] || { echo unknown; exit; }
-    changed=$(GIT_OPTIONAL_LOCKS=0 git status --porcelain -uall -- crates.txt $(folders) | sed -n '/\.rt"*$/p; /\.antt"*$/p; /crates\.txt$/p; /\/stdin$/p; /\/stdout$/p; /\/args$/p; /\/data\//p')
+    changed=$(GIT_OPTIONAL_LOCKS=0 git status --porcelain -uall -- crates.txt $(folders) | sed -n '/\.rt"*$/p; /\.antt"*$/p; /crates\.txt$/p; /\/stdin$/p; /\/stdout$/p; /\/args$/p; /\/status$/p; /\/data\//p')
     echo "$commit${changed:+ with changes}"
 )
 # Product, commit and kit of what is built, as they were when it was built.
@@ -178,40 +181,48 @@ take_lock() { # descriptor 8
 leave_lock() { if holder_in "$lock.d" && [ "$held_by" = $$ ]; then rm -rf "$lock.d"; fi; }
 
 # On standard error, which crate was proved, how many are left and how long it took so far. What rt prints comes in, and its status behind it.
-progress() { # HOW MANY
-    proved=0 last= began=$(date +%s)
+# Of what rt kept from before it prints nothing: that is no longer left once a crate behind it is proved.
+progress() {
+    rest=" $(crates_of "$crate" | tr '\n' ' ')" begun= last= began=$(date +%s)
     while IFS= read -r line; do
         last=$line
         printf '%s\n' "$line" 2>/dev/null >>"$report"
         case $line in
-        "rt: target/staticlib/lib$crate.a "*) line="$crate" ;; # a library's own line
-        "rt: "*" proved ("*) line=${line#rt: } ;;
-        *) continue ;;
+        "rt: chose --jobs "*" for "*) begun=${line##* } ;;
+        "logic=proved "*)
+            case $rest in *" $begun "*) rest=" ${rest#*" $begun "}" ;; *) continue ;; esac
+            set -- $rest
+            took=$(($(date +%s) - began))
+            say "$begun is proved, $# left, after $([ "$took" -lt 60 ] || echo "$((took / 60)) min ")$((took % 60)) s"
+            ;;
         esac
-        proved=$((proved + 1)) took=$(($(date +%s) - began))
-        say "${line%% *} is proved, $(($1 - proved)) left, after $([ "$took" -lt 60 ] || echo "$((took / 60)) min ")$((took % 60)) s"
     done
     [ "$last" = "status 0" ]
 }
-proof() { { (cd "$top" && tie guard "$rt" "$how" "$crate" 2>&1 3>&-); echo "status $?"; } | progress "$1"; }
+# In the crate's folder rt proves and builds what has changed, and then runs a program, here on nothing.
+by_rt() {
+    exec </dev/null 2>&1 3>&-
+    cd "$top/crates/$crate" || return
+    unset RT_ALLOW_C RT_BACKEND # as rt ci does
+    [ "$what" = library ] || exec >/dev/null
+    tie guard "$rt" "$how"
+}
+proof() { { (by_rt); echo "status $?"; } | progress; }
 
-# The one before is kept while another is proved, and put back where that fails: it is used again once its sources are back.
-put_back() {
-    [ -f "$kept" ] && [ "$(stamped "$what")" = "$(cksum <"$kept")" ] || return
-    [ "$(stamped "$what")" = "$(made_now)" ] || { mkdir -p "${made%/*}" && cp -p "$kept" "$made.$$" && mv -f "$made.$$" "$made"; } || return
-    rm -f "$kept"
-}
-keep() {
-    put_back
-    if [ -f "$made" ] && [ "$(stamped "$what")" = "$(made_now)" ]; then cp -p "$made" "$kept.$$" && mv -f "$kept.$$" "$kept"; else rm -f "$stamp"; fi
-}
 not_built() { # WHY
-    if put_back 2>/dev/null; then say "$1; the $what of before is kept for the sources that it was made of, and is not run"; else say "$1"; fi
+    if [ -f "$made" ] && [ "$(stamped "$what")" = "$(made_now)" ]; then
+        say "$1; the $what of before is kept for the sources that it was made of, and is not run"
+    else say "$1"; fi
     return 1
 }
 
-# rt takes a program for unchanged by its own stamp, also where the program is damaged or gone.
-clear_target() { { [ "$what" = library ] || rm -f "$top/target/stamp/$crate"; } && (: >"$report"); }
+# What rt has built is kept, with a stamp, if the sources are those that are given, whose commit and product these are.
+keep() { # SOURCES COMMIT PRODUCT
+    { mkdir -p "${made%/*}" && cp "$built" "$made.$$"; } 2>/dev/null || { rm -f "$made.$$"; cannot_write; return; }
+    [ "$1" = "$(sources_now)" ] || { rm -f "$made.$$"; not_built "the sources were changed while they were proved"; return; }
+    { mv -f "$made.$$" "$made" && { sums "$1"; echo "version $3"; echo "commit $2"; } >"$stamp.$$" && mv -f "$stamp.$$" "$stamp"; } 2>/dev/null || cannot_write
+}
+cannot_write() { say "$top/target cannot be written"; return 1; }
 
 # The kit that README.md says this was proved with: the words in its backquotes before "(`rt version`)".
 other_kit() {
@@ -222,38 +233,53 @@ other_kit() {
 
 # with the lock
 build_alone() {
-    printf '%s\n' "bin/$name, process $$" >"$lock"
-    fits || { put_back && fits; } && return
-    { keep && clear_target; } 2>/dev/null || { say "$top/target cannot be written"; return 1; }
-    many=$(crates_of "$crate" | wc -l)
-    say "proving and building the $what and the $((many - 1)) crates below it; the first time takes some minutes"
+    fits && return
+    (: >"$report") 2>/dev/null || { cannot_write; return; }
+    say "proving and building the $what and the $(($(crates_of "$crate" | wc -l) - 1)) crates below it; the first time takes some minutes"
     other_kit
     sources=$(sources_now) commit=$(commit_now) made_as=$(product)
-    proof "$many" || { not_built "it is not proved: target/$crate.log says why"; return; }
-    [ "$sources" = "$(sources_now)" ] || { not_built "the sources were changed while they were proved"; return; }
-    { { sums "$sources"; echo "version $made_as"; echo "commit $commit"; } >"$stamp.$$" && mv -f "$stamp.$$" "$stamp"; } 2>/dev/null && rm -f "$kept" && return
-    say "$top/target cannot be written"
-    return 1
+    proof || { not_built "it is not proved: target/$kept_as.log says why"; return; }
+    keep "$sources" "$commit" "$made_as"
+}
+locked() { # COMMAND
+    if [ -e "$top/target" ] && [ ! -d "$top/target" ]; then say "$top/target is in the way: it is no folder"; return 1; fi
+    mkdir -p "$top/target" 2>/dev/null && (: 8>>"$lock") 2>/dev/null || { cannot_write; return; }
+    { take_lock && { printf '%s\n' "bin/$name, process $$" 2>/dev/null >"$lock"; "$1"; }; } 8>>"$lock"
+    set -- $?
+    leave_lock
+    return "$1"
 }
 
 # The program or the library, proved and built where it is missing, damaged or not made of these sources with this kit.
 build() {
     fits && return 0
     if [ -z "$rt" ]; then without_rt; return; fi
-    if [ -e "$top/target" ] && [ ! -d "$top/target" ]; then say "$top/target is in the way: it is no folder"; return 1; fi
-    mkdir -p "$top/target" 2>/dev/null && (: 8>>"$lock") 2>/dev/null || { say "$top/target cannot be written"; return 1; }
-    { take_lock && build_alone; } 8>>"$lock"
-    set -- $?
-    leave_lock
-    return "$1"
+    locked build_alone
+}
+
+# For .ci/run alone, behind `rt ci`, which has proved the program and built it with LLVM: that is kept, and nothing is proved again. There
+# has to be one, and no source may have changed since it was built, by the time of the last change, which cannot be set back.
+changed_since() { # FILE
+    (cd "$top" && { stat -c %.9Z crates.txt; within -type d -path 'crates/*/*' -exec stat -c %.9Z {} +; counted -exec stat -c %.9Z {} +; }) |
+        awk -v built="$(stat -c %.9Z "$1")" '$1 >= built { found = 1 } END { exit !found }'
+}
+take_alone() {
+    sources=$(sources_now)
+    if changed_since "$built"; then say "the sources were changed since ${built#"$top/"} was built"; return 1; fi
+    keep "$sources" "$(commit_now)" "$(product)"
+}
+take_proved() {
+    if [ -z "$rt" ]; then say "there is no command rt on the path: the Rattle kit is needed, with which the $what was built"; return 1; fi
+    if [ ! -f "$built" ]; then say "there is no ${built#"$top/"}: rt ci builds it"; return 1; fi
+    locked take_alone
 }
 
 # ---- the program on a log
 
-# Whether the program can be started: under the kit's loader, and its emulator where the machine needs one; without a kit, as it is.
+# Whether the program can be started: it is for x86-64, and for the loader of that machine's C library.
 can_start() {
-    if [ -x "$tools/lib/ld-linux-x86-64.so.2" ] || { [ "$machine" = x86_64 ] && [ -x "$loader" ]; }; then return 0; fi
-    say "the Rattle kit is not here, and the program needs its loader on this machine"
+    if [ -x "$loader" ]; then return 0; fi
+    say "the program is for x86-64 and needs the loader $loader, which this machine lacks"
     return 1
 }
 
@@ -303,12 +329,7 @@ tie() { # HOW COMMAND..: in a shell of its own, which becomes COMMAND. HOW is se
     fi
     exec "$@"
 }
-start() { # ARG..
-    set -- "$made" "$@"
-    if [ -x "$tools/lib/ld-linux-x86-64.so.2" ]; then set -- "$tools/lib/ld-linux-x86-64.so.2" --library-path "$tools/lib" "$@"; fi
-    if [ -x "$tools/bin/qemu-x86_64" ]; then set -- "$tools/bin/qemu-x86_64" "$@"; fi
-    tie "${tied_by:-guard}" "$@"
-}
+start() { tie "${tied_by:-guard}" "$made" "$@"; } # ARG..
 
 # How far it is, on standard error where that is a terminal and the text goes elsewhere: a line that is written anew each second and wiped
 # at the end. Of a long log, in per cent: a descriptor that is handed on shares its place in the file, so the place of this process is the
