@@ -58,6 +58,13 @@ fn writes_bytes(wanted: SheetWanted) -> bool
 }
 
 // ---- a name
+// 4,096 zeros, which hold any name that opens a file, and any sheet.
+fn buffer() -> [u8; 4096]
+    ensures { 4096 ≡ length result }
+{
+    [0; 4096]
+}
+
 // A month with the log that a reader gives.
 fn take_log<R: Read>(input: &mut R, month: Month) -> Added
     ensures { LogTaken month result }
@@ -85,8 +92,8 @@ fn read_full<R: Read>(input: &mut R, bytes: &mut [u8]) -> usize
 fn take_sheet<R: Read>(input: &mut R, month: Month) -> Added
     ensures { SheetTaken month result }
 {
-    let mut bytes = [0u8; 4096];
-    let mut more = [0u8; 4096];
+    let mut bytes = buffer();
+    let mut more = buffer();
     let n = read_full(&mut *input, &mut bytes);
     // where the input has ended, it has ended for a second read too; else the first failed
     if n < bytes.len() {
@@ -192,7 +199,7 @@ fn after(before: Gathering, added: Added) -> Gathering
 fn take_word(rt: &HostRuntime, i: usize, join: bool, before: Gathering) -> Gathering
     ensures { NameTaken join before result }
 {
-    let mut name = [0u8; 4096];
+    let mut name = buffer();
     let n = caller::word_at(rt, i, &mut name);
     let added = take_named(rt, &name[..n], join, before.month);
     tell_added(rt, &name[..n], added);
@@ -221,7 +228,7 @@ fn print_text<W: Write>(output: &mut W, gathering: Gathering) -> Printed
     requires { ¬ (gathering.status ≡ no_sheet) }
     ensures { PrintedOf false gathering result }
 {
-    let mut text = [0u8; 4096];
+    let mut text = buffer();
     let to = sheetlines::put_month(&mut text, 0, gathering.month);
     write_text(output, gathering, &text[..to])
 }
@@ -230,7 +237,7 @@ fn print_bytes<W: Write>(output: &mut W, gathering: Gathering) -> Printed
     requires { ¬ (gathering.status ≡ no_sheet) }
     ensures { PrintedOf true gathering result }
 {
-    let mut bytes = [0u8; 4096];
+    let mut bytes = buffer();
     sheetfile::write_month(&mut bytes, 0, gathering.month);
     write_bytes(output, gathering, &bytes[..SIZE])
 }
@@ -294,7 +301,7 @@ fn tell_misused(rt: &HostRuntime, wanted: SheetWanted)
 }
 
 fn main(rt: HostRuntime) {
-    let mut first = [0u8; 4096];
+    let mut first = buffer();
     let n = caller::word_at(&rt, 1, &mut first);
     let count = caller::word_count(&rt);
     // of a word that does not fit into its buffer the count is 0, and an empty word asks for nothing
