@@ -3,7 +3,7 @@
 use Prim.Native.Nat.{ℕ}
 use mathlib.Core.Bool.{Bool, true, false}
 use mathlib.Core.List.{List, [], ◌∷◌}
-use mathlib.Core.Option.{Option, some}
+use mathlib.Core.Option.{Option, some, none}
 use mathlib.Core.Path.{◌≡◌, refl, ap, subst, ◌∙◌}
 use lib.Dec.{eqb}
 use lib.ListN.{length}
@@ -12,7 +12,7 @@ use Rattle.laws.specs.Choice.{pick}
 use Rattle.laws.proofs.Finite.{picked}
 use Rattle.registers.proofs.Answers.{zero-accepted}
 use Rattle.device.specs.declared.Device.{Device}
-use Rattle.events.specs.Event.{Event, power_up, read, happens, lent_by, gives, Given, bytes}
+use Rattle.events.specs.Event.{Event, power_up, write, read, sample, cycle, clock, happens, lent_by, gives, Given, bytes}
 use Rattle.events.specs.Run.{after}
 use Rattle.events.proofs.Given.{read-gives}
 use Rattle.history.proofs.Conserve.{demand3}
@@ -46,15 +46,16 @@ Stated es buffer e =
 with-buffer : {n : ℕ} {b b' : List ℕ} → b ≡ b' → ◌≡◌ {A = Seen} (record { number = n; buffer = b }) (record { number = n; buffer = b' })
 with-buffer {n} h = λ i. record { number = n; buffer = h i }
 
+-- what holds of each event that may be asked for, and of none, holds of the one that is
+by_kind : (P : Option Event → Type 0) (c : Handed)
+    → P (some (write c.address c.byte)) → P (some (read c.address (length c.buffer))) → P (some (sample c.x c.y c.z c.byte)) → P (some cycle) → P (some (clock c.microseconds)) → P none
+    → P (event_for c)
+by_kind P c w r s y k n = picked P (eqb c.kind 1) w (picked P (eqb c.kind 2) r (picked P (eqb c.kind 3) s (picked P (eqb c.kind 4) y (picked P (eqb c.kind 5) k n))))
+
 module _ (es : List Event) (c : Handed) where
   one-stated : Stated es c.buffer (event_for c)
   unfolding after
-  one-stated =
-      picked (Stated es c.buffer) (eqb c.kind 1) (refl, refl)
-      (picked (Stated es c.buffer) (eqb c.kind 2) (with-buffer (lent-read (after es) c.address c.buffer), refl)
-      (picked (Stated es c.buffer) (eqb c.kind 3) (refl, refl)
-      (picked (Stated es c.buffer) (eqb c.kind 4) (refl, refl)
-      (picked (Stated es c.buffer) (eqb c.kind 5) (refl, refl) (refl, refl)))))
+  one-stated = by_kind (Stated es c.buffer) c (refl, refl) (with-buffer (lent-read (after es) c.address c.buffer), refl) (refl, refl) (refl, refl) (refl, refl) (refl, refl)
 
   -- whatever the contract allows is what the events say
   pub call-leaves : {d d' : Device} (s : Seen) → d ≡ after es → Leaves d c s d' → (s ≡ seen_of es (event_for c) c.buffer) × (d' ≡ after (event_onto (event_for c) es))
