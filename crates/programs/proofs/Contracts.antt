@@ -1,7 +1,18 @@
--- The contracts of the pumps, as the toolchain reads them from the source, are those that the meaning of a status is made of.
+-- The contracts of the pumps, as the toolchain reads them from the source, are those that the meaning of a status is made of, for every reader
+-- and every writer. Of a type at a parameter the toolchain itself asks that it lives as long as what the call borrows: its readers and writers do.
 -- Assumes nothing.
-use mathlib.Core.Path.{◌≡◌, refl}
-use Rattle.laws.specs.Outcome.{SourceClauses, promised}
+use Rattle.std.proofs.Common.{◌≡◌, refl}
+use Rattle.std.specs.declared.io.traits.Read.{Ghosts as Reads}
+use Rattle.std.specs.declared.io.traits.Write.{Ghosts as Writes}
+use base.Logic.{SProp, sep, emp}
+use contract.BorrowLft.{◌⊑◌}
+use contract.Lifetimes.{Lfts, lft_at}
+use contract.Monad.{fact}
+use denote.RattleType.{RattleType}
+use denote.Triple.Clauses as clauses
+use mir.Syntax.{Dict}
+use seplogic.Ra.Ura.{Ura}
+use Rattle.laws.specs.Outcome.{SourceClauses, Claim, promised}
 use Rattle.playback.specs.Replay as replay
 use Rattle.answers.specs.Answer as answer
 use Rattle.jobs.specs.Job.{printed_by, to_replay, to_answer, to_sheet}
@@ -12,17 +23,34 @@ use Rattle.stream.specs.contracts.pump_answer as pump-answer
 use Rattle.stream.specs.contracts.pump_sheet as pump-sheet
 use Rattle.stream.specs.contracts.status_of as status-of
 
-pub replay-contract : ◌≡◌ {A = SourceClauses pump-replay.ended} (λ M. pump-replay.clauses)
-    (promised pump-replay.ended (λ κs a r e. let pins = a.1.1.0 in PumpedAs r.how (replay.printed pins) task.Replay (to_replay pins) r))
-replay-contract = refl
+-- the one fact as the `ensures`, where the types live as long as they have to
+module _ (T : clauses.Ended) where
+  abbrev promised_while : ((κs : Lfts T.signature.lifetimes) (M : Type 1) (𝓤 : Ura M) → SProp 𝓤) → Claim T → SourceClauses T
+  promised_while lives claim M 𝓤 𝓛 mem run κs a = record { ghost = Unit {0}; requires = λ g. lives κs M 𝓤; ensures = λ g r e. fact 𝓤 (claim κs a r e) }
 
-pub answer-contract : ◌≡◌ {A = SourceClauses pump-answer.ended} (λ M. pump-answer.clauses)
-    (promised pump-answer.ended (λ κs a r e. let asked = a.1.1.0 in PumpedAs r.how (answer.printed asked) task.Answer (to_answer asked) r))
-answer-contract = refl
+module _ (R W : RattleType) (reads : Reads R.Denot) (by : Dict) (writes : Writes W.Denot) (to : Dict) where
+  -- the reader and the writer live as long as the references to them
+  abbrev both_live : (κs : Lfts 4) (M : Type 1) (𝓤 : Ura M) → SProp 𝓤
+  both_live κs M 𝓤 = sep 𝓤 (fact 𝓤 (lft_at 4 2 tt κs ⊑ R.lives)) (sep 𝓤 (fact 𝓤 (lft_at 4 3 tt κs ⊑ W.lives)) (emp 𝓤))
 
-pub sheet-contract : ◌≡◌ {A = SourceClauses pump-sheet.ended} (λ M. pump-sheet.clauses)
-    (promised pump-sheet.ended (λ κs a r e. PumpedAs r.how (printed_by task.Sheet to_sheet) task.Sheet to_sheet r))
-sheet-contract = refl
+  pub replay-contract : let T = pump-replay.ended R W reads by writes to in
+      ◌≡◌ {A = SourceClauses T} (λ M 𝓤. pump-replay.clauses R W reads by writes to)
+      (promised_while T both_live (λ κs a r e. let pins = a.1.1.0 in PumpedAs r.how (replay.printed pins) task.Replay (to_replay pins) r))
+  replay-contract = refl
 
-pub status-contract : ◌≡◌ {A = SourceClauses status-of.ended} (λ M. status-of.clauses) (promised status-of.ended (λ κs a r e. r ≡ status_of a.0))
+  pub answer-contract : let T = pump-answer.ended R W reads by writes to in
+      ◌≡◌ {A = SourceClauses T} (λ M 𝓤. pump-answer.clauses R W reads by writes to)
+      (promised_while T both_live (λ κs a r e. let asked = a.1.1.0 in PumpedAs r.how (answer.printed asked) task.Answer (to_answer asked) r))
+  answer-contract = refl
+
+module _ (R : RattleType) (reads : Reads R.Denot) (by : Dict) where
+  abbrev reader_lives : (κs : Lfts 2) (M : Type 1) (𝓤 : Ura M) → SProp 𝓤
+  reader_lives κs M 𝓤 = sep 𝓤 (fact 𝓤 (lft_at 2 1 tt κs ⊑ R.lives)) (emp 𝓤)
+
+  pub sheet-contract : let T = pump-sheet.ended R reads by in
+      ◌≡◌ {A = SourceClauses T} (λ M 𝓤. pump-sheet.clauses R reads by)
+      (promised_while T reader_lives (λ κs a r e. PumpedAs r.how (printed_by task.Sheet to_sheet) task.Sheet to_sheet r))
+  sheet-contract = refl
+
+pub status-contract : ◌≡◌ {A = SourceClauses status-of.ended} (λ M 𝓤. status-of.clauses) (promised status-of.ended (λ κs a r e. r ≡ status_of a.0))
 status-contract = refl

@@ -6,7 +6,7 @@ use mathlib.Core.List.{List, [], ◌∷◌}
 use mathlib.Core.Logic.{◌⊎◌, inl, inr, ◌↔◌}
 use mathlib.Core.Path.{◌≡◌, refl, sym, ap, ◌∙◌}
 use native.Mathlib.Omega.{arith}
-use borrow.Author.Tests.{eqb-true, eqb-false, le-ltb}
+use borrow.Author.Tests.{eqb-true, eqb-false}
 use lib.Dec.{eqb}
 use lib.ListN.{drop}
 use Rattle.laws.specs.Choice.{pick}
@@ -216,7 +216,7 @@ sheet-means = record {
 
 -- ---- of a read, and of a program that was not used as it is meant to be
 pub read-means : ReadMeans
-read-means = record { failed = λ k room. refl; came = λ k room few. (le-ltb k 0 (omega arith), omega (arith, few)) }
+read-means = record { failed = λ error room. refl; came = λ E k room few. (refl, omega (arith, few)) }
 
 pub misuse-means : MisuseMeans
 unfolding decimal last_digits

@@ -1,6 +1,6 @@
 -- What the status of a program means, and what it writes: of the replay, and of the answer, by what their pumps promise; and what the sheet's
 -- pump hands back of a log.
-use Rattle.std.specs.Prelude.{ℕ, ◌≤◌, true, false, List, [], ◌∷◌, ◌++◌, ◌⊎◌, ◌↔◌, ◌≡◌, pos, negsuc}
+use Rattle.std.specs.Prelude.{ℕ, ◌≤◌, true, false, List, [], ◌∷◌, ◌++◌, ◌⊎◌, ◌↔◌, ◌≡◌, Ok, Err}
 use Rattle.follow.specs.Whole.{joined, led_to}
 use Rattle.text.specs.Text.{decimal}
 use Rattle.outcomes.specs.Demand1.{DueOfLog}
@@ -60,12 +60,12 @@ pub record SheetMeans : Type 0 where
   -- and nothing was printed
   pub silent : (log : List ℕ) → printed_by task.Sheet to_sheet log ≡ []
 
--- ---- what is made of the answer of a read into so much room: -1, or how many bytes it moved
-pub record ReadMeans : Type 0 where
-  -- a read that fails is no end of the log
-  pub failed : (k room : ℕ) → (got_of (negsuc k) room).failed ≡ true
+-- ---- what is made of the answer of a read into so much room: an error, or how many bytes it moved
+pub record ReadMeans : Type 1 where
+  -- a read that fails, with whatever error, is no end of the log
+  pub failed : {E : Type 0} (error : E) (room : ℕ) → (got_of (Err error) room).failed ≡ true
   -- and else all that came counts: the end is where nothing did
-  pub came : (k room : ℕ) → k ≤ room → ((got_of (pos k) room).failed ≡ false) × ((got_of (pos k) room).count ≡ k)
+  pub came : (E : Type 0) (k room : ℕ) → k ≤ room → ((got_of {E = E} (Ok k) room).failed ≡ false) × ((got_of {E = E} (Ok k) room).count ≡ k)
 
 -- ---- the digit of a program that was not used as it is meant to be is 2. That it is told there alone is required in the programs (tell_misused)
 pub record MisuseMeans : Type 0 where
