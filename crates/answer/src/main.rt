@@ -7,38 +7,47 @@ ghost use Rattle.arguments.specs.declared.Wanted.TheVariants.{Wrong};
 ghost use Rattle.answer.specs.Program.{AnsweredAs};
 
 use arguments::{Wanted, wanted_of};
+use caller::Output;
+use std::io::Write;
+use std::process::ExitCode;
 use stream::Ended;
 
 // How the answer that was asked for came to its end.
-fn tell_answered(rt: &HostRuntime, wanted: Wanted, ended: Ended)
+fn tell_answered<E: Write>(rt: &HostRuntime, errors: &mut E, wanted: Wanted, ended: Ended)
     requires { AnsweredAs wanted ended }
 {
-    ending::tell_end(rt, &mut rt.stderr(), b"answer", ended);
+    ending::tell_end(rt, errors, b"answer", ended);
 }
 
 // Where nothing was asked for in so many words.
-fn tell_misused(rt: &HostRuntime, wanted: Wanted)
+fn tell_misused<E: Write>(rt: &HostRuntime, errors: &mut E, wanted: Wanted)
     requires { wanted ≡ Wrong }
 {
     ending::tell_use(
         rt,
-        &mut rt.stderr(),
+        errors,
         b"answer",
         b"it takes no argument, one of the words modes, samples and all, or two record numbers, of which the first is smaller",
     );
 }
 
-fn main(rt: HostRuntime) {
+fn main(rt: HostRuntime) -> ExitCode {
     let mut first = [0u8; 4096];
     let mut second = [0u8; 4096];
     let m = caller::word_at(&rt, 1, &mut first);
     let n = caller::word_at(&rt, 2, &mut second);
+    let mut errors = Output::new(rt.stderr());
     // of a word that does not fit into its buffer the count is 0, and an empty word asks for nothing
     let wanted = wanted_of(caller::word_count(&rt), &first[..m], &second[..n]);
     let Wanted::Of(asked) = wanted else {
-        tell_misused(&rt, wanted);
-        return;
+        tell_misused(&rt, &mut errors, wanted);
+        return errors.status();
     };
-    let ended = stream::pump_answer(&mut rt.stdin(), &mut rt.stdout(), asked);
-    tell_answered(&rt, wanted, ended);
+    let mut output = Output::new(rt.stdout());
+    let ended = stream::pump_answer(&mut rt.stdin(), &mut output, asked);
+    if output.is_closed() {
+        return output.status();
+    }
+    tell_answered(&rt, &mut errors, wanted, ended);
+    errors.status()
 }

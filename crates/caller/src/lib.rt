@@ -1,15 +1,16 @@
-// What a program has of its caller beside the standard streams: the words behind its name, and descriptors that a caller may have opened for
-// it. No contract can say what the words are, or where a byte goes.
+// What a program has of its caller beside the standard streams: the words behind its name, descriptors that a caller may have opened for it,
+// and whether the reader of what it writes is gone. No contract can say what the words are, or where a byte goes.
 #![tactic(auto)]
 
-ghost use Rattle.std.specs.Prelude.{◌≤◌, length};
+ghost use Rattle.std.specs.Prelude.{false, ◌≡◌, ◌≤◌, length};
 
 use std::env::FillError;
-use std::fs;
 use std::fs::OpenOptions;
-use std::io::Write;
+use std::io::{ErrorKind, Write};
 use std::os::unix::fs::PermissionsExt;
+use std::process::ExitCode;
 use std::rt::{Env, Files};
+use std::{fs, io};
 
 // The right to write, in the mode of a descriptor's link.
 const WRITES: u32 = 0o200;
@@ -50,5 +51,61 @@ pub fn put_byte<R: Files>(rt: &R, link: &str, byte: u8) {
     }
     if let Ok(mut file) = OpenOptions::new().append(true).open(rt, link) {
         let _ = file.write_all(&[byte]);
+    }
+}
+
+// The status of a process that ends since the reader of what it writes is gone: that of one which SIGPIPE ended, as a shell tells it. The
+// toolchain has its programs ignore that signal.
+const CLOSED: u8 = 141;
+
+// A writer, and whether its reader was gone at some write.
+#[derive(Drop)]
+pub struct Output<W> {
+    to: W,
+    is_closed: bool,
+}
+
+impl<W: Write> Output<W> {
+    pub fn new(to: W) -> Self
+        ensures to { result.to ≡ to }
+        ensures open { result.is_closed ≡ false }
+    {
+        Output {
+            to,
+            is_closed: false,
+        }
+    }
+
+    pub fn is_closed(&self) -> bool
+        ensures { result ≡ self.now.is_closed }
+    {
+        self.is_closed
+    }
+
+    // The status of the process where this is all that it still writes. Whatever else its end was is told by a digit.
+    pub fn status(&self) -> ExitCode {
+        if self.is_closed {
+            ExitCode::from(CLOSED)
+        } else {
+            ExitCode::SUCCESS
+        }
+    }
+}
+
+impl<W: Write> Write for Output<W> {
+    ghost contents = { λ output. W.contents output.to };
+
+    fn write(&mut self, buf: &[u8]) -> io::Result<usize> {
+        let put = self.to.write(buf);
+        if let Err(error) = &put {
+            if error.kind() == ErrorKind::BrokenPipe {
+                self.is_closed = true;
+            }
+        }
+        put
+    }
+
+    fn flush(&mut self) -> io::Result<()> {
+        self.to.flush()
     }
 }

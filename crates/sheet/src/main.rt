@@ -9,12 +9,14 @@ ghost use Rattle.arguments.specs.declared.SheetWanted.TheVariants.{Wrong};
 ghost use Rattle.sheet.specs.Program.{joins, raws, LogTaken, SheetTaken, Taken, added_status, month_after, behind, NameTaken, Gathered, no_sheet, status_behind, PrintedOf, PrintedAs};
 
 use arguments::{SheetWanted, sheet_of};
+use caller::Output;
 use gathering::{Added, status_of, with_log, with_sheet, worse};
 use handed::{Printed, write_bytes, write_nothing, write_text};
 use sheetfile::SIZE;
 use sheets::Month;
 use std::fs::File;
 use std::io::{Read, Write};
+use std::process::ExitCode;
 use std::str;
 
 // The link of descriptor 5: behind each name a byte goes there, for a caller that counts them.
@@ -282,10 +284,14 @@ fn tell_printed(rt: &HostRuntime, count: usize, wanted: SheetWanted, printed: Pr
 }
 
 // The sheet over all names.
-fn sheet(rt: &HostRuntime, count: usize, wanted: SheetWanted) {
+fn sheet(rt: &HostRuntime, count: usize, wanted: SheetWanted) -> ExitCode {
     let gathering = gather(rt, count, joins_sheets(wanted));
-    let printed = print(&mut rt.stdout(), writes_bytes(wanted), gathering);
-    tell_printed(rt, count, wanted, printed);
+    let mut output = Output::new(rt.stdout());
+    let printed = print(&mut output, writes_bytes(wanted), gathering);
+    if !output.is_closed() {
+        tell_printed(rt, count, wanted, printed);
+    }
+    output.status()
 }
 
 // Where nothing was asked for in so many words.
@@ -300,14 +306,17 @@ fn tell_misused(rt: &HostRuntime, wanted: SheetWanted)
     );
 }
 
-fn main(rt: HostRuntime) {
+fn main(rt: HostRuntime) -> ExitCode {
     let mut first = buffer();
     let n = caller::word_at(&rt, 1, &mut first);
     let count = caller::word_count(&rt);
     // of a word that does not fit into its buffer the count is 0, and an empty word asks for nothing
     let wanted = sheet_of(count, &first[..n]);
     match wanted {
-        SheetWanted::Wrong => tell_misused(&rt, wanted),
+        SheetWanted::Wrong => {
+            tell_misused(&rt, wanted);
+            ExitCode::SUCCESS
+        }
         SheetWanted::Print => sheet(&rt, count, wanted),
         SheetWanted::Raw => sheet(&rt, count, wanted),
         SheetWanted::Join => sheet(&rt, count, wanted),
