@@ -376,14 +376,24 @@ unwatch() {
 }
 
 # The program on standard input, or on the logs that it is told to open. What it writes to descriptor 3 is its digit, the status, behind what
-# `tie` wrote there. A command that sets retold has all that the program says before the digit, and says it itself with `retell`: a program
-# writes names as they are.
-retold=
+# `tie` wrote there. All that the program says comes before the digit, and the command says it with `retell`, which it may have of its own: a
+# program writes names as they are.
+retell() { printf '%s\n' "$1" >&2; } # TEXT
 digit_of() { # ARG..
     exec 3>&1 >&4 4>&-
     [ -n "$several_logs" ] || exec 5>&-
-    [ -z "$retold" ] || exec 2>&3
+    exec 2>&3
     start "$@"
+}
+# A program is not ended by a pipe that its reader closed, as a command is: it says that the output cannot be written. So it is where it says
+# that of a pipe which waits for its reader, as any does that was not told otherwise (O_NONBLOCK).
+is_closed() { # TEXT, of the program
+    case ${1##*"$newline"} in
+    "$crate: the output cannot be written") ;;
+    "$crate: the output cannot be written$whole_up_to"*) case ${1##*"$whole_up_to"} in *[!0-9]*) return 1 ;; esac ;;
+    *) return 1 ;;
+    esac
+    [ -p /proc/self/fd/1 ] && while read -r word flags; do [ "$word" != flags: ] || break; done </proc/self/fdinfo/1 && [ $((flags & 04000)) -eq 0 ]
 }
 run() { # ARG..
     watch_log
@@ -399,8 +409,13 @@ run() { # ARG..
     case $digit in g*) digit=${digit#g}; kill "${digit%% *}" 2>/dev/null; digit=${digit#* } ;; t*) digit=${digit#t} ;; esac
     unwatch
     runs $$ || exit 137 # the command was killed, and this is a part of it
-    case $digit in *"$newline"*) retell "${digit%"$newline"*}"; digit=${digit##*"$newline"} ;; esac
-    if [ "$ended" -eq 141 ]; then exit 141; fi # the reader closed the pipe
+    text=
+    case $digit in *"$newline"*) text=${digit%"$newline"*} digit=${digit##*"$newline"} ;; esac
+    if [ "$digit" = 1 ] && is_closed "$text"; then
+        case $text in *"$newline"*) retell "${text%"$newline"*}" ;; esac
+        exit 141
+    fi
+    [ -z "$text" ] || retell "$text"
     if [ "$ended" -ne 0 ]; then say "the program ended with status $ended"; return 1; fi
     case $digit in
     [0-9]) return "$digit" ;;
@@ -418,7 +433,8 @@ newline='
 
 # Whether a log can be read, and where not, a line that says why. - is standard input. A command whose text is of no one log, or whose files
 # are no logs, says so.
-whole='; the text is whole up to record 0' kind=log
+whole_up_to='; the text is whole up to record '
+whole=${whole_up_to}0 kind=log
 can_read() { # LOG
     if [ "$1" = - ]; then
         true 2>/dev/null 9<&0 || { say "the input is closed$whole"; return 1; }
