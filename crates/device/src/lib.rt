@@ -123,7 +123,7 @@ impl Device {
     {
         self.came = false;
         Answered {
-            answer: Answer::Done,
+            answer: Ok(()),
             device: self,
         }
     }
@@ -136,7 +136,7 @@ impl Device {
         let detectors = self.detectors;
         self.detectors = detectors.clock(microseconds);
         Answered {
-            answer: Answer::Done,
+            answer: Ok(()),
             device: self,
         }
     }

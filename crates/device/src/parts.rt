@@ -147,7 +147,7 @@ impl Core {
     {
         self.came = false;
         CoreAnswered {
-            answer: Answer::Done,
+            answer: Ok(()),
             core: self,
         }
     }
@@ -160,7 +160,7 @@ impl Core {
         let detectors = self.detectors;
         self.detectors = detectors.clock(microseconds);
         CoreAnswered {
-            answer: Answer::Done,
+            answer: Ok(()),
             core: self,
         }
     }
