@@ -75,7 +75,9 @@ impl Device {
     pub fn write(mut self, address: u8, byte: u8) -> Answered
         ensures { result ≡ write_of self address byte }
     {
-        let done = self.core().write(&mut self.regs, &mut self.frames, address, byte);
+        let done = self
+            .core()
+            .write(&mut self.regs, &mut self.frames, address, byte);
         self.answered(done)
     }
 
@@ -83,7 +85,9 @@ impl Device {
     pub fn read(mut self, address: u8, buffer: &mut [u8]) -> Answered
         ensures { (result ≡ read_of self address (length buffer.old)) × (buffer.new ≡ buffer_after self address buffer.old) }
     {
-        let done = self.core().read(&self.regs, &mut self.frames, address, buffer);
+        let done = self
+            .core()
+            .read(&self.regs, &mut self.frames, address, buffer);
         self.answered(done)
     }
 
@@ -91,7 +95,9 @@ impl Device {
     pub fn sample(mut self, x: i16, y: i16, z: i16, temperature: u8) -> Answered
         ensures { result ≡ sample_of self x y z temperature }
     {
-        let done = self.core().sample(&self.regs, &mut self.frames, x, y, z, temperature);
+        let done = self
+            .core()
+            .sample(&self.regs, &mut self.frames, x, y, z, temperature);
         self.answered(done)
     }
 

@@ -212,21 +212,37 @@ fn is_reset(address: u8, byte: u8) -> bool
 fn restarts_motion(address: u8) -> bool
     ensures { result ≡ is_in motion_restarting address }
 {
-    matches!(address as usize, RANGE_AT | AXES_AT | LATCH_AT | POINTS_AT | THRESHOLD_AT)
+    matches!(
+        address as usize,
+        RANGE_AT | AXES_AT | LATCH_AT | POINTS_AT | THRESHOLD_AT
+    )
 }
 
 // Whether low-g and high-g start anew at an accepted write.
 fn restarts_gravity(address: u8) -> bool
     ensures { result ≡ is_in gravity_restarting address }
 {
-    matches!(address as usize, RANGE_AT | ENABLES_AT | LATCH_AT | LOW_DELAY_AT | LOW_THRESHOLD_AT | HYSTERESES_AT | HIGH_DELAY_AT | HIGH_THRESHOLD_AT)
+    matches!(
+        address as usize,
+        RANGE_AT
+            | ENABLES_AT
+            | LATCH_AT
+            | LOW_DELAY_AT
+            | LOW_THRESHOLD_AT
+            | HYSTERESES_AT
+            | HIGH_DELAY_AT
+            | HIGH_THRESHOLD_AT
+    )
 }
 
 // Whether slow motion and no-motion start anew at an accepted write.
 fn restarts_slow(address: u8) -> bool
     ensures { result ≡ is_in slow_restarting address }
 {
-    matches!(address as usize, RANGE_AT | SLOW_AT | LATCH_AT | POINTS_AT | SLOW_THRESHOLD_AT)
+    matches!(
+        address as usize,
+        RANGE_AT | SLOW_AT | LATCH_AT | POINTS_AT | SLOW_THRESHOLD_AT
+    )
 }
 
 // What an accepted write does.
