@@ -131,6 +131,7 @@ pub fn is_accepted(answer: Answer) -> bool
 }
 
 // Whether a write is of a code that the sheet reserves, or would bring no-motion and a code without a meaning for it together.
+#[tactic(auto, unfolding(crate::specs::Refused::reserved_code))]
 fn is_reserved_code(regs: &[u8; 64], address: u8, byte: u8) -> bool
     ensures { result ≡ reserved_code regs.now address byte }
 {
@@ -145,6 +146,7 @@ fn is_reserved_code(regs: &[u8; 64], address: u8, byte: u8) -> bool
 }
 
 // Whether a write is of a setting that is not modelled.
+#[tactic(auto, unfolding(crate::specs::Refused::not_modelled))]
 fn is_not_modelled(regs: &[u8; 64], row: Row, address: u8, byte: u8) -> bool
     ensures { result ≡ not_modelled regs.now row address byte }
 {
@@ -152,6 +154,7 @@ fn is_not_modelled(regs: &[u8; 64], row: Row, address: u8, byte: u8) -> bool
 }
 
 // What the twin lacks where a register has a setting that is not modelled.
+#[tactic(auto, unfolding(crate::specs::Refused::lack_at))]
 fn lack_at(address: u8) -> Refusal
     ensures { result ≡ lack_at address }
 {
@@ -164,6 +167,7 @@ fn lack_at(address: u8) -> Refusal
 }
 
 // What a write is answered.
+#[tactic(auto, unfolding(crate::specs::Refused::answer_at))]
 fn write_answer(regs: &[u8; 64], row: Row, address: u8, byte: u8) -> Answer
     ensures { result ≡ answer_at regs.now row address byte }
 {
@@ -180,6 +184,7 @@ fn write_answer(regs: &[u8; 64], row: Row, address: u8, byte: u8) -> Answer
 }
 
 // What a read of count bytes is answered.
+#[tactic(auto, unfolding(crate::specs::Refused::read_answer))]
 pub fn read_answer(address: u8, count: usize) -> Answer
     ensures { result ≡ read_answer address count }
 {
@@ -246,6 +251,7 @@ fn restarts_slow(address: u8) -> bool
 }
 
 // What an accepted write does.
+#[tactic(auto, unfolding(crate::specs::Deeds::deeds_of))]
 fn deeds_of(regs: &[u8; 64], row: Row, address: u8, byte: u8) -> Deeds
     ensures { result ≡ deeds_of regs.now row address byte }
 {
@@ -289,6 +295,7 @@ fn judge_at(regs: &[u8; 64], row: Row, address: u8, byte: u8) -> Judged
 }
 
 // What the registers, lent as they are before it, say of a write.
+#[tactic(auto, unfolding(crate::specs::Deeds::judgement))]
 pub fn judge_write(regs: &[u8; 64], address: u8, byte: u8) -> Judged
     ensures { result ≡ judgement regs.now address byte }
 {
