@@ -192,16 +192,11 @@ pub fn read_answer(address: u8, count: usize) -> Answer
     if first > FRAMES_AT {
         return Err(Refusal::NoAddress);
     }
-    if count == 0 {
+    if count == 0 || count > LONGEST_READ {
         return Err(Refusal::BadLength);
     }
-    if count > LONGEST_READ {
-        return Err(Refusal::BadLength);
-    }
-    if first < FRAMES_AT {
-        if first + count > FRAMES_AT {
-            return Err(Refusal::PastEnd);
-        }
+    if first < FRAMES_AT && first + count > FRAMES_AT {
+        return Err(Refusal::PastEnd);
     }
     Ok(())
 }
