@@ -13,8 +13,7 @@ use Rattle.laws.proofs.Finite.{left, right}
 use Rattle.codes.specs.declared.Range.{Range}
 use Rattle.codes.specs.declared.Range.TheVariants.{G2, G4, G8, G16, Reserved}
 use Rattle.counts.specs.Counts.{in_g}
-use Rattle.registers.specs.Answers.{accepted}
-use Rattle.registers.specs.declared.Answer.{Answer}
+use Rattle.registers.specs.Answers.{Answer, accepted}
 use Rattle.device.specs.Sample.{sample_of, sample_answer}
 use Rattle.device.specs.declared.Device.{Device}
 use Rattle.device.specs.Show.{range_in, stored_in}
