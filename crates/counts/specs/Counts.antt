@@ -92,7 +92,7 @@ abbrev pub is_same_doubt : Option Doubt → Option Doubt → Bool
 is_same_doubt None None = true
 is_same_doubt None (Some d) = false
 is_same_doubt (Some d) None = false
-is_same_doubt (Some d) (Some d') = d.byte == d'.byte
+is_same_doubt (Some d) (Some d') = both (d.number == d'.number) (d.byte == d'.byte)
 
 -- a range in g
 abbrev pub in_g : Range → ℕ

@@ -21,11 +21,9 @@ pub struct Counts {
 }
 
 // What a register sets is in doubt by the refused write to it of this byte, in the record of this number.
-#[derive(Clone, Copy)]
-#[derive_where(PartialEq, Eq)]
+#[derive(Clone, Copy, PartialEq, Eq)]
 pub struct Doubt {
     pub byte: u8,
-    #[derive_where(skip(EqHashOrd))]
     pub number: u64,
 }
 
