@@ -6,7 +6,7 @@ use Rattle.sheets.specs.declared.Month.{Month}
 use Rattle.jobs.specs.Job.{printed_by, to_sheet}
 use Rattle.jobs.specs.declared.Task.TheVariants.{Sheet}
 use Rattle.arguments.specs.declared.SheetWanted.{SheetWanted}
-use Rattle.arguments.specs.declared.SheetWanted.TheVariants.{Wrong, Print, Raw, Join, JoinRaw}
+use Rattle.arguments.specs.declared.SheetWanted.TheVariants.{Print, Raw, Join, JoinRaw}
 use Rattle.stream.specs.Pump.{PumpedAs}
 use Rattle.stream.specs.declared.Ended.{Ended}
 use Rattle.gathering.specs.Gathering.{log_added, sheet_added, worse_of, month_status}
@@ -17,14 +17,12 @@ use Rattle.sheet.specs.declared.handed.Printed.{Printed}
 
 -- ---- what is asked for: whether sheets are joined, and whether the sheet is written as bytes
 abbrev pub joins : SheetWanted → Bool
-joins Wrong = false
 joins Print = false
 joins Raw = false
 joins Join = true
 joins JoinRaw = true
 
 abbrev pub raws : SheetWanted → Bool
-raws Wrong = false
 raws Print = false
 raws Raw = true
 raws Join = false
