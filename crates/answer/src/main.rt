@@ -5,7 +5,7 @@
 ghost use Rattle.std.specs.Prelude.{None, ◌≡◌};
 ghost use Rattle.answer.specs.Program.{AnsweredAs};
 
-use answers::Asked;
+use answers::{Answering, Asked};
 use arguments::wanted_of;
 use caller::Output;
 use std::io::Write;
@@ -13,7 +13,7 @@ use std::process::ExitCode;
 use stream::Ended;
 
 // How the answer that was asked for came to its end.
-fn tell_answered<E: Write>(rt: &HostRuntime, errors: &mut E, wanted: Option<Asked>, ended: Ended)
+fn tell_answered<E: Write>(rt: &HostRuntime, errors: &mut E, wanted: Option<Asked>, ended: Ended<Answering>)
     requires { AnsweredAs wanted ended }
 {
     ending::tell_end(rt, errors, b"answer", ended);

@@ -6,12 +6,13 @@ ghost use Rattle.replay.specs.Program.{ReplayedAs};
 
 use arguments::pins_of;
 use caller::Output;
+use playback::Replay;
 use std::io::Write;
 use std::process::ExitCode;
 use stream::Ended;
 
 // How the replay that was asked for came to its end.
-fn tell_replayed<E: Write>(rt: &HostRuntime, errors: &mut E, wanted: Option<bool>, ended: Ended)
+fn tell_replayed<E: Write>(rt: &HostRuntime, errors: &mut E, wanted: Option<bool>, ended: Ended<Replay>)
     requires { ReplayedAs wanted ended }
 {
     ending::tell_end(rt, errors, b"replay", ended);

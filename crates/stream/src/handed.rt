@@ -8,7 +8,7 @@ use crate::State;
 use jobs::Follower;
 use std::io::Write;
 
-// What the write of a text came to: whether all of it was taken.
+// What the write of a text came to: whether all of it was taken. The error is let go, so a Result in its place would say no more.
 #[derive(Clone, Copy)]
 pub struct Delivered {
     whole: bool,

@@ -106,19 +106,16 @@ fn read_more<R: Read, F: Follower>(
 ) -> Turned<F>
     ensures { MoreReadAs result.how state buffer.old result.state buffer.new }
 {
-    let more = refill(input, state.window, buffer);
     let follower = state.follower;
-    let window = more.window;
-    let state = State { follower, window };
-    if more.failed {
-        return Turned {
-            how: How::NotRead,
-            state,
-        };
-    }
+    let mut window = state.window;
+    let read = refill(input, &mut window, buffer);
+    let how = match read {
+        Ok(()) => How::On,
+        Err(_) => How::NotRead,
+    };
     Turned {
-        how: How::On,
-        state,
+        how,
+        state: State { follower, window },
     }
 }
 
