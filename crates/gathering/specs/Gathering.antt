@@ -1,12 +1,11 @@
 -- Q-8: "one sheet over many logs": how a month takes them, one after the other, and sheets too; and the status of a program behind them.
-use Rattle.std.specs.Prelude.{ℕ, List, eqb, ltb}
+use Rattle.std.specs.Prelude.{ℕ, List, eqb, ltb, Result, Ok, Err}
 use Rattle.laws.specs.Choice.{pick}
 use Rattle.sheets.specs.Sheets.{month_joined}
 use Rattle.sheets.specs.declared.Month.{Month}
 use Rattle.sheets.specs.declared.MonthJoined.{MonthJoined}
 use Rattle.sheetfile.specs.Reader.{decode}
-use Rattle.sheetfile.specs.declared.MonthRead.{MonthRead}
-use Rattle.sheetfile.specs.declared.MonthRead.TheVariants as read
+use Rattle.sheetfile.specs.declared.NoSheet as refusal
 use Rattle.sheeting.specs.Sheeting.{month_with}
 use Rattle.jobs.specs.Job.{sheet_in}
 use Rattle.jobs.specs.declared.Job.{Job}
@@ -31,9 +30,9 @@ unfoldable pub log_added : Month → Ended → Added
 log_added m ended = job_added m ended.how ended.job
 
 -- "what is no sheet is refused"
-abbrev pub read_added : Month → MonthRead → Added
-read_added m (read.Is more) = added_of (month_joined m more)
-read_added m read.NoSheet = NoSheet
+abbrev pub read_added : Month → Result Month refusal.NoSheet → Added
+read_added m (Ok more) = added_of (month_joined m more)
+read_added m (Err why) = NoSheet
 
 unfoldable pub sheet_added : Month → List ℕ → Added
 sheet_added m bytes = read_added m (decode bytes)

@@ -4,7 +4,7 @@
 ghost use Rattle.std.specs.Prelude.{◌≡◌};
 ghost use Rattle.gathering.specs.Gathering.{added_of, log_added, read_added, sheet_added, rank_of, worse_of, month_status};
 
-use sheetfile::{MonthRead, read_month};
+use sheetfile::{NoSheet, read_month};
 use sheeting::month_with;
 use sheets::{Month, MonthJoined};
 use stream::{Ended, How};
@@ -50,8 +50,8 @@ pub fn with_sheet(month: Month, bytes: &[u8]) -> Added
 {
     let read = read_month(bytes);
     match read {
-        MonthRead::Is(more) => added_of(month.joined(more)),
-        MonthRead::NoSheet => Added::NoSheet,
+        Ok(more) => added_of(month.joined(more)),
+        Err(NoSheet) => Added::NoSheet,
     }
 }
 
