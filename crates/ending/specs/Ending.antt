@@ -1,6 +1,5 @@
 -- A program's status, as it is written, and the record up to which its text is whole.
 use Rattle.std.specs.Prelude.{ℕ, ◌+◌, ◌%◌}
-use Rattle.jobs.specs.Job.{record_count}
 use Rattle.stream.specs.declared.Ended.{Ended}
 
 -- its digit in ASCII
@@ -11,6 +10,6 @@ digit_of status = (48 + status) % 256
 abbrev pub misused : ℕ
 misused = 2
 
--- the record up to which the text is whole: so many came to the job that the pump handed back
-abbrev pub whole_up_to : Ended → ℕ
-whole_up_to ended = record_count ended.task ended.job
+-- the record up to which the text is whole: so many came to the follower that the pump handed back, by how many come to one like him
+abbrev pub whole_up_to : {S : Type 0} → (S → ℕ) → Ended S → ℕ
+whole_up_to record_count ended = record_count ended.follower

@@ -4,8 +4,8 @@
 ghost use Rattle.std.specs.Prelude.{◌≡◌};
 ghost use Rattle.gathering.specs.Gathering.{added_of, log_added, read_added, sheet_added, rank_of, worse_of, month_status};
 
-use sheetfile::{MonthRead, read_month};
-use sheeting::month_with;
+use sheetfile::{NoSheet, read_month};
+use sheeting::{Sheeting, month_with};
 use sheets::{Month, MonthJoined};
 use stream::{Ended, How};
 
@@ -30,16 +30,12 @@ fn added_of(joined: MonthJoined) -> Added
 
 // With the log of a pump that came to its end so: where it was read as far as it goes, with the sheet of what came.
 #[tactic(auto, unfolding(crate::specs::Gathering::log_added))]
-pub fn with_log(month: Month, ended: Ended) -> Added
+pub fn with_log(month: Month, ended: Ended<Sheeting>) -> Added
     ensures { result ≡ log_added month ended }
 {
-    let how = ended.how;
-    let job = ended.job;
-    match how {
-        How::On => Added::NotRead,
-        How::Stopped(refusal) => added_of(month_with(month, job.sheet(), refusal)),
-        How::NotRead => Added::NotRead,
-        How::NotWritten => Added::NotRead,
+    match ended.how {
+        How::Stopped(refusal) => added_of(month_with(month, ended.follower.sheet(), refusal)),
+        How::On | How::NotRead | How::NotWritten => Added::NotRead,
     }
 }
 
@@ -50,8 +46,8 @@ pub fn with_sheet(month: Month, bytes: &[u8]) -> Added
 {
     let read = read_month(bytes);
     match read {
-        MonthRead::Is(more) => added_of(month.joined(more)),
-        MonthRead::NoSheet => Added::NoSheet,
+        Ok(more) => added_of(month.joined(more)),
+        Err(NoSheet) => Added::NoSheet,
     }
 }
 

@@ -1,2 +1,0 @@
-pub mod Jobs
-pub mod OneOutcome
