@@ -12,19 +12,19 @@ use Rattle.jobs.specs.contracts.SheetingFollower.run as sheet-run
 use Rattle.jobs.specs.contracts.SheetingFollower.record_count as sheet-count
 
 pub replay-run-settled : Settled replay-run.ended (λ M 𝓤. replay-run.clauses) (λ M 𝓤. replay-run.spec)
-replay-run-settled = settles (λ κs a r r' s s' p q. (one-run p q, λ i. (tt, (tt, (tt, (tt, (one-text p q i, tt)))))))
+replay-run-settled = settles (λ κs a r r' s s' p q. (one-run p q, λ i. (tt, (tt, (tt, (one-text p q i, tt))))))
 
 pub replay-count-settled : Settled replay-count.ended (λ M 𝓤. replay-count.clauses) (λ M 𝓤. replay-count.spec)
 replay-count-settled = settles (λ κs a r r' s s' p q. (meet p q, refl))
 
 pub answer-run-settled : Settled answer-run.ended (λ M 𝓤. answer-run.clauses) (λ M 𝓤. answer-run.spec)
-answer-run-settled = settles (λ κs a r r' s s' p q. (one-run p q, λ i. (tt, (tt, (tt, (tt, (one-text p q i, tt)))))))
+answer-run-settled = settles (λ κs a r r' s s' p q. (one-run p q, λ i. (tt, (tt, (tt, (one-text p q i, tt))))))
 
 pub answer-count-settled : Settled answer-count.ended (λ M 𝓤. answer-count.clauses) (λ M 𝓤. answer-count.spec)
 answer-count-settled = settles (λ κs a r r' s s' p q. (meet p q, refl))
 
 pub sheet-run-settled : Settled sheet-run.ended (λ M 𝓤. sheet-run.clauses) (λ M 𝓤. sheet-run.spec)
-sheet-run-settled = settles (λ κs a r r' s s' p q. (one-run p q, λ i. (tt, (tt, (tt, (tt, (one-text p q i, tt)))))))
+sheet-run-settled = settles (λ κs a r r' s s' p q. (one-run p q, λ i. (tt, (tt, (tt, (one-text p q i, tt))))))
 
 pub sheet-count-settled : Settled sheet-count.ended (λ M 𝓤. sheet-count.clauses) (λ M 𝓤. sheet-count.spec)
 sheet-count-settled = settles (λ κs a r r' s s' p q. (meet p q, refl))
