@@ -1,5 +1,5 @@
 -- Who follows a log for a program, by its task: the replay, the answer, or the sheet.
-use Rattle.std.specs.Prelude.{ℕ, ◌-◌, Bool, false, List, eqb}
+use Rattle.std.specs.Prelude.{ℕ, ◌-◌, Bool, false, List, Result, eqb}
 use Rattle.laws.specs.Choice.{pick}
 use Rattle.follow.specs.Source.{records}
 use Rattle.follow.specs.Teller.{Teller}
@@ -14,7 +14,8 @@ use Rattle.answers.specs.declared.Asked.{Asked}
 use Rattle.answers.specs.declared.Asked.TheVariants.{Stretches}
 use Rattle.sheeting.specs.Sheeting as sheet
 use Rattle.sheeting.specs.Sheeting.{sheeter, sheet_of}
-use Rattle.sheeting.specs.declared.LogSheet.{LogSheet}
+use Rattle.sheets.specs.declared.Sheet as sheets
+use Rattle.sheets.specs.declared.TooLarge.{TooLarge}
 use Rattle.sheeting.specs.declared.Sheeting.{Sheeting}
 use Rattle.jobs.specs.declared.Job.{Job}
 use Rattle.jobs.specs.declared.Task.{Task}
@@ -80,5 +81,5 @@ record_count task.Answer j = j.answering.account.number
 record_count task.Sheet j = j.sheeting.account.number
 
 -- the sheet of what came
-abbrev pub sheet_in : Job → LogSheet
+abbrev pub sheet_in : Job → Result sheets.Sheet TooLarge
 sheet_in j = sheet_of j.sheeting

@@ -8,7 +8,8 @@ ghost use Rattle.jobs.specs.Job.{task_of, to_replay, to_answer, to_sheet, worker
 use answers::{Answering, Asked};
 use follow::Next;
 use playback::Replay;
-use sheeting::{LogSheet, Sheeting};
+use sheeting::Sheeting;
+use sheets::{Sheet, TooLarge};
 
 // What a program does with a log.
 #[derive(Clone, Copy)]
@@ -96,7 +97,7 @@ impl Job {
     }
 
     // The sheet of what came.
-    pub fn sheet(self) -> LogSheet
+    pub fn sheet(self) -> Result<Sheet, TooLarge>
         ensures { result ≡ sheet_in self }
     {
         let sheeting = self.sheeting;

@@ -4,6 +4,7 @@ use Prim.Native.Nat.{ℕ, ◌+◌, ◌*◌, ◌/◌, ◌%◌}
 use mathlib.Core.Bool.{true}
 use mathlib.Core.List.{List, [], ◌++◌}
 use mathlib.Core.Path.{◌≡◌, refl}
+use Rattle.std.specs.Prelude.{Ok}
 use native.Mathlib.Omega.{arith}
 use borrow.Author.Tests.{eq-eqb}
 use lib.IntN.{ℤ}
@@ -22,7 +23,6 @@ use Rattle.sheets.specs.declared.Month.{Month}
 use Rattle.sheetfile.specs.Format.{big_endian8, tally_bytes, axes_bytes, ranges_bytes, head_bytes, four_numbers, counts_bytes, encode, size}
 use Rattle.sheetfile.specs.Reader.{four_in, eight_in, tally_in, axes_in, ranges_in, month_in, tally_stands, axes_stand, ranges_stand, head_stands, is_sheet, decode}
 use Rattle.sheetfile.specs.Whole.{is_whole, ExtremesFit, TallyFits, AxesFit, RangesFit, NumbersFit}
-use Rattle.sheetfile.specs.declared.MonthRead.TheVariants.{Is}
 use Rattle.sheetfile.proofs.Lengths.{length-encode}
 
 pub eight-read : (n : ℕ) (rest : List ℕ) → eight_in (big_endian8 n ++ rest) ≡ n
@@ -118,7 +118,7 @@ module _ (m : Month) where
         refused = refused i;
       }
 
-  pub written_read : NumbersFit m → is_whole m ≡ true → decode (encode m) ≡ Is m
+  pub written_read : NumbersFit m → is_whole m ≡ true → decode (encode m) ≡ Ok m
   unfolding is_sheet decode
   written_read f w =
       simp (eq-eqb (length (encode m)) size (length-encode m), head-stands, behind-counts, ranges-stand m.sheet.ranges, month-read f, w)

@@ -1,5 +1,5 @@
 -- Q-8: "what is no sheet is refused". Each part is read at the head of the bytes that are left.
-use Rattle.std.specs.Prelude.{ℕ, ◌+◌, ◌*◌, Bool, List, Option, None, eqb, ℤ, length, get_or, drop}
+use Rattle.std.specs.Prelude.{ℕ, ◌+◌, ◌*◌, Bool, List, Option, None, Result, Ok, Err, eqb, ℤ, length, get_or, drop}
 use Rattle.std.specs.Int.{w64}
 use Rattle.std.proofs.Common.{to_z}
 use Rattle.laws.specs.Choice.{pick, both}
@@ -12,8 +12,7 @@ use Rattle.sheets.specs.declared.ByRange.{ByRange}
 use Rattle.sheets.specs.declared.Month.{Month}
 use Rattle.sheetfile.specs.Format.{mark, version, number_length, tally_length, axes_length, counts_place, ranges_place, size}
 use Rattle.sheetfile.specs.Whole.{is_whole}
-use Rattle.sheetfile.specs.declared.MonthRead.{MonthRead}
-use Rattle.sheetfile.specs.declared.MonthRead.TheVariants.{Is, NoSheet}
+use Rattle.sheetfile.specs.declared.NoSheet.{NoSheet}
 
 -- ---- what the bytes say
 -- four bytes, and eight, the highest first
@@ -72,5 +71,8 @@ head_stands s = both (eqb (four_in s) mark) (eqb (get_or s 4 0) version)
 unfoldable pub is_sheet : List ℕ → Bool
 is_sheet s = both (eqb (length s) size) (both (head_stands s) (both (ranges_stand (drop ranges_place s)) (is_whole (month_in s))))
 
-unfoldable pub decode : List ℕ → MonthRead
-decode s = pick (is_sheet s) (Is (month_in s)) NoSheet
+abbrev pub no_sheet : NoSheet
+no_sheet = record {}
+
+unfoldable pub decode : List ℕ → Result Month NoSheet
+decode s = pick (is_sheet s) (Ok (month_in s)) (Err no_sheet)
