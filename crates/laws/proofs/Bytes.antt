@@ -8,7 +8,7 @@ use native.Mathlib.Omega.{arith}
 use native.Mathlib.Nat.{zero-add}
 use native.Mathlib.Numerals.{add-one}
 use lib.ListN.{length, take, drop, get_or, set, replicate, length-append, length-set, length-take, length-drop, length-replicate, replicate-append-replicate, drop_of_length-le}
-use lib.Seq.{paste, paste-zero, paste-suc, get_or-take, get_or-drop, get_or-append-add, take_all, take-length, take-add, drop-length, length-take-le, take_at, drop_at, drop-drop, take-take, drop-append-add, take-append-le, drop-append-le}
+use lib.Seq.{paste, paste-zero, paste-suc, take_all, take-add, drop-length, length-take-le, take_at, drop_at, drop-drop, take-take, drop-append-add, take-append-le, drop-append-le}
 use Rattle.std.proofs.lemmas.Slice.{between_is}
 use lib.Dec.{ltb}
 use borrow.Author.Tests.{ltb-true, ltb-false}
@@ -32,13 +32,6 @@ copied_more {d} {at} {s} {i} {l} {j} {v} g hd hs ej ev = record {
 
 pub copied_all : {d : List ℕ} {at : ℕ} {s : List ℕ} {i : ℕ} {l : List ℕ} (n : ℕ) → i ≡ n → Copied d at s i l → l ≡ paste d at s n
 copied_all {d} {at} {s} n e g = g.is ∙ ap (λ (k : ℕ). paste d at s k) e
-
--- what lies ahead of a copy to the front is as it was
-pub copied-ahead : {d s : List ℕ} {i : ℕ} {l : List ℕ} (k : ℕ) → Copied d 0 s i l → i ≤ length s → get_or l (k + i) 0 ≡ get_or d (k + i) 0
-copied-ahead {d} {s} {i} {l} k g h =
-    let e : k + i ≡ length (take i s) + k = omega (arith, length-take-le i s h) in
-    let f : 0 + i + k ≡ k + i = omega arith in
-    rw (g.is, e) (get_or-append-add (take i s) (drop (0 + i) d) k 0 ∙ get_or-drop (0 + i) d k 0 ∙ ap (λ (j : ℕ). get_or d j 0) (f ∙ e))
 
 -- all of it is written
 pub paste-whole : (d s : List ℕ) → length s ≡ length d → paste d 0 s (length d) ≡ s
@@ -114,9 +107,6 @@ paste-padded room x s at n e h =
 -- ---- bytes that move to the front
 pub length-between : (from to : ℕ) (bs : List ℕ) → length (between from to bs) ≡ min to (length bs) - from
 length-between from to bs = length-drop from (take to bs) ∙ rw length-take
-
-pub get_d_between : (from to : ℕ) (bs : List ℕ) (i : ℕ) → from + i < to → get_or (between from to bs) i 0 ≡ get_or bs (from + i) 0
-get_d_between from to bs i h = get_or-drop from (take to bs) i 0 ∙ get_or-take to bs (from + i) 0 h
 
 -- a bound past the end is the end
 take-within : (to : ℕ) (bs : List ℕ) → take (min to (length bs)) bs ≡ take to bs
