@@ -1,7 +1,7 @@
 -- What holds of the detector while no axis is enabled. Assumes nothing.
 use mathlib.Core.Bool.{true}
 use mathlib.Core.Path.{◌≡◌, refl}
-use Rattle.std.specs.Option.{Option, Some, None}
+use Rattle.std.specs.Prelude.{Option, Some, None}
 use Rattle.slopes.specs.Point.{no_axis, point_of}
 use Rattle.slopes.specs.declared.Slopes.{Slopes}
 use Rattle.motion.specs.Detector.{after_sample}

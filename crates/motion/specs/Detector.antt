@@ -1,6 +1,6 @@
 -- 01, "Interrupts and pins": the any-motion detector, which is runs of points and an alarm.
 use Rattle.std.specs.Prelude.{ℕ, ◌+◌, ◌%◌, Bool, leb}
-use Rattle.std.specs.Option.{Option}
+use Rattle.std.specs.Prelude.{Option}
 use Rattle.laws.specs.Choice.{pick, both}
 use Rattle.alarm.specs.Alarm.{off, raised, cleared, lapse_of}
 use Rattle.slopes.specs.Point.{point_of}

@@ -1,8 +1,8 @@
 -- 01, "Interrupts and pins", any-motion: the point that a sample gives, by a detector's axes (any-motion's are the byte of 0x16) and its
 -- threshold (0x28).
 use Rattle.std.specs.Prelude.{ℕ, ◌*◌, ◌%◌, Bool, false, eqb, ltb}
-use Rattle.std.specs.Option as option
-use Rattle.std.specs.Option.{Option}
+use Rattle.std.specs.declared.option.Option.TheVariants as option
+use Rattle.std.specs.Prelude.{Option}
 use Rattle.laws.specs.Choice.{pick}
 use Rattle.laws.specs.Bits.{bit}
 use Rattle.slopes.specs.declared.Slope.{Slope}

@@ -1,6 +1,6 @@
 -- 01, "Interrupts and pins", any-motion: of "two signed samples in a row" the first. It belongs to all slope detectors together.
 use Rattle.std.specs.Prelude.{true, false, ℤ, pos}
-use Rattle.std.specs.Option.{Option, Some, None}
+use Rattle.std.specs.Prelude.{Option, Some, None}
 use Rattle.laws.specs.Choice.{pick}
 use Rattle.slopes.specs.Slope.{slope_of}
 use Rattle.slopes.specs.declared.Slopes.{Slopes}

@@ -100,14 +100,15 @@ impl Previous {
     pub fn slopes_to(self, x: i16, y: i16, z: i16) -> Option<Slopes>
         ensures { result ≡ slopes_to x y z self }
     {
-        if !self.known {
-            return None;
+        if self.known {
+            Some(Slopes {
+                x: slope_between(self.x, x),
+                y: slope_between(self.y, y),
+                z: slope_between(self.z, z),
+            })
+        } else {
+            None
         }
-        Some(Slopes {
-            x: slope_between(self.x, x),
-            y: slope_between(self.y, y),
-            z: slope_between(self.z, z),
-        })
     }
 }
 
