@@ -1,7 +1,11 @@
-use mathlib.Core.Path.{refl}
+use mathlib.Core.Path.{ap}
+use borrow.Author.Rules.{rules}
+use Rattle.std.specs.Prelude.{Some}
+use Rattle.slopes.specs.Slope.{slope_of}
 use Rattle.slopes.specs.Previous.{slopes_to}
+use Rattle.slopes.specs.declared.Slopes.{Slopes}
 use Rattle.slopes.proofs.Previous.slopes_to.Goals as goal
 
 pub returns-then-self : goal.returns-then-self
 unfolding slopes_to
-returns-then-self c = rw (c.slope_between.ensures, c.slope_between-then-self.ensures, c.slope_between-then-self-2.ensures, c.if-self.true) refl
+returns-then-self c = rw c.if-self.true (ap {A = Slopes} Some (search rules))
