@@ -14,7 +14,8 @@ pub struct Codes {
 }
 
 // One axis: the present sample's code, whether it is new, and the upper byte that a lock holds. The code takes 32 bits, so that a channel
-// has 8 bytes and moves as one number.
+// has 8 bytes and moves as one number; lock and byte stand apart, since the theorem on the data channels speaks of each
+// (`rules/proofs/Channels: Shows`).
 #[repr(C)]
 #[derive(Clone, Copy)]
 pub struct Channel {

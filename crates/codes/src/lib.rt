@@ -161,7 +161,7 @@ pub fn is_unlatched(latch: Latch) -> bool
     matches!(latch, Latch::Unlatched)
 }
 
-// How long a status is held, in microseconds; 0 where no time clears it.
+// How long a status is held, in microseconds; 0 where no time clears it, as an alarm's time and the theorems on it have it.
 pub fn hold_of(latch: Latch) -> u32
     ensures { result ≡ hold_of latch }
 {
@@ -210,7 +210,7 @@ pub fn wait_code(byte: u8) -> u8
     byte / 4 % 64
 }
 
-// For how many microseconds no-motion waits by a code; 0 for a code without a meaning.
+// For how many microseconds no-motion waits by a code; 0 for a code without a meaning, as the theorems on no-motion name it.
 #[tactic(auto, unfolding(crate::specs::Wait::wait_of))]
 pub fn wait_of(code: u8) -> u32
     ensures { result ≡ wait_of code }

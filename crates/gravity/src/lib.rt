@@ -123,7 +123,8 @@ fn some_above(axes: u8, limit: u32, x: Slope, y: Slope, z: Slope) -> bool
     above_on(0, axes, limit, x) || (above_on(1, axes, limit, y) || above_on(2, axes, limit, z))
 }
 
-// What a sample shows of high-g: the first enabled axis above the limit, or whether one is above what it clears to.
+// What a sample shows of high-g: the first enabled axis above the limit, or whether one is above what it clears to. `slopes` picks the first
+// axis of a point alike; shared, it would be an `Option` of a mark and a sign that both take apart again, which is no plainer.
 #[tactic(auto, unfolding(crate::specs::High::judged_high))]
 fn judged_high(axes: u8, limit: u32, to: u32, x: Slope, y: Slope, z: Slope) -> Shown
     ensures { result ≡ judged_high axes limit to x y z }
@@ -198,7 +199,8 @@ fn low_sampled(low: Spell, regs: &[u8; 64], x: i16, y: i16, z: i16) -> Spell
     low
 }
 
-// High-g after an accepted sample.
+// High-g after an accepted sample. It differs from low-g in the enable, the bytes and the delay, which is most of it: one function for both
+// would take them all, and is no plainer.
 #[tactic(auto, unfolding(crate::specs::Gravity::high_sampled))]
 fn high_sampled(high: Spell, regs: &[u8; 64], x: i16, y: i16, z: i16) -> Spell
     ensures { result ≡ high_sampled regs.now x y z high }

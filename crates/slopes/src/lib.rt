@@ -25,8 +25,8 @@ pub struct Slopes {
     pub z: Slope,
 }
 
-// The sample before the next one, if it is known. The flag stands beside it, since the device's record has 8 bytes for it, which move as
-// one.
+// The sample before the next one, if it is known. The flag stands beside it, since the theorem on points speaks of it
+// (`points/proofs/Points: Follows`). In 8 bytes, which move as one.
 #[repr(C)]
 #[derive(Clone, Copy)]
 pub struct Previous {
@@ -181,7 +181,7 @@ impl Runs {
         self
     }
 
-    // A calm point comes.
+    // A calm point comes. With `after_over` it has the two fields the other way round, as the definitions have them: no plainer as one.
     #[tactic(auto, unfolding(crate::specs::Runs::calm_run))]
     pub fn after_calm(mut self, n: u8) -> Self
         ensures { result ≡ calm_run n self }

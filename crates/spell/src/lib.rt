@@ -32,10 +32,9 @@ impl Stopwatch {
     pub fn clock(mut self, microseconds: u32) -> Self
         ensures { result ≡ longer microseconds self }
     {
-        if self.count == 0 {
-            return self;
+        if self.count > 0 {
+            self.count = self.count.saturating_add(microseconds);
         }
-        self.count = self.count.saturating_add(microseconds);
         self
     }
 
