@@ -58,7 +58,7 @@ fn tell_failed<E: Write, F: Follower>(
     ended: Ended<F>,
     whole: u64,
 )
-    requires { whole ≡ whole_up_to F.record_count ended }
+    requires { whole ≡ whole_up_to F.following ended }
 {
     say(&mut *errors, program);
     say(&mut *errors, b": ");

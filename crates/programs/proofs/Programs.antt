@@ -111,7 +111,7 @@ module _ (printed : List ℕ → List ℕ) (who : Teller records) (law : Lawful 
     number_is =
         let last = f.stopped.last in
         let by = stopped_by law last.done f.rest f.may last.room last.turned.0 in
-        sym (log-number who log first off) ∙ ap (stop_from who first) f.log_is ∙ by ∙ last.turned.1
+        sym (log-number who log first off) ∙ ap (stop_from who first) f.log_is ∙ by
 
     due : (n : ℕ) → number ≡ n → DueOfLog log n
     due n = (demand1.of-log log n).0

@@ -10,10 +10,11 @@ use native.Mathlib.Omega.{arith}
 use borrow.Author.Tests.{ne_eqb}
 use lib.Dec.{eqb}
 use lib.ListN.{length, drop}
+use Rattle.std.specs.Prelude.{Some}
 use Rattle.follow.specs.Source.{records}
 use Rattle.follow.specs.Teller.{Teller, Lawful}
 use Rattle.follow.specs.Whole.{joined, printed_from, stop_from, led_to}
-use Rattle.follow.specs.declared.Next.TheVariants.{Wait, Stop}
+use Rattle.follow.specs.declared.Halt.TheVariants.{Wait, Stop}
 use Rattle.follow.proofs.Sources.{records-sound}
 use Rattle.follow.proofs.Stream.{Hearing, heard_from, run-heard, the-text, the_number, the-state, waits, run-due}
 use Rattle.follow.proofs.Whole.{joined-append}
@@ -59,8 +60,8 @@ module _ (who : Teller records) (law : Lawful who) {A : Type 0} (h : Hearing who
 
   module _ (s : State who.State) (buffer : List ℕ) (room : ℕ) where
     -- of a run that stops
-    stop-said : (rest : List ℕ) → OpenTo s rest → let u = ran_over who s buffer room in
-        u.next ≡ Stop → said s.follower (unused s.window buffer ++ rest) ≡ h.at_stop u.state u.text u.refusal
+    stop-said : {refusal : ℕ} (rest : List ℕ) → OpenTo s rest → let u = ran_over who s buffer room in
+        u.halt ≡ Some (Stop refusal) → said s.follower (unused s.window buffer ++ rest) ≡ h.at_stop u.state u.text refusal
     stop-said rest may e = run-heard records-sound who law h (unused s.window buffer) rest s.window.last may s.follower room e
 
     -- of one that does not, what its text makes of what the next run sees
@@ -123,11 +124,11 @@ module _ {who : Teller records} (law : Lawful who) {first : who.State} {n : ℕ}
     with-last = joined-append blocks (text ∷ []) ∙ ap (λ (l : List ℕ). joined blocks ++ l) (append-nil text)
 
     -- with the last block it is the whole of it, where the run stops
-    pub written_all : (ran_over who s buffer room).next ≡ Stop → joined (blocks ++ (text ∷ [])) ≡ printed_from who first (joined parts ++ rest)
+    pub written_all : {refusal : ℕ} → (ran_over who s buffer room).halt ≡ Some (Stop refusal) → joined (blocks ++ (text ∷ [])) ≡ printed_from who first (joined parts ++ rest)
     written_all e = with-last ∙ ap (λ (l : List ℕ). joined blocks ++ l) (sym (stop-said who law (the-text who) s buffer room rest may e)) ∙ sym written-before
 
     -- and where it waits, a longer beginning
-    pub written-with : (ran_over who s buffer room).next ≡ Wait
+    pub written-with : (ran_over who s buffer room).halt ≡ Some Wait
         → printed_from who first (joined parts ++ rest) ≡ joined (blocks ++ (text ∷ [])) ++ printed_from who (ran_over who s buffer room).state (drop (ran_over who s buffer room).at left ++ rest)
     written-with e =
         written-before
@@ -136,9 +137,9 @@ module _ {who : Teller records} (law : Lawful who) {first : who.State} {n : ℕ}
         ∙ ap (λ (l : List ℕ). l ++ printed_from who (ran_over who s buffer room).state (drop (ran_over who s buffer room).at left ++ rest)) (sym with-last)
 
     -- what stops the last run stops the log
-    pub stopped_by : (ran_over who s buffer room).next ≡ Stop → stop_from who first (joined parts ++ rest) ≡ (ran_over who s buffer room).refusal
+    pub stopped_by : {refusal : ℕ} → (ran_over who s buffer room).halt ≡ Some (Stop refusal) → stop_from who first (joined parts ++ rest) ≡ refusal
     stopped_by e = turns-said who law (the_number who) done rest may ∙ none-counted blocks _ ∙ stop-said who law (the_number who) s buffer room rest may e
 
     -- and it has come to where the log leads
-    pub led-there : (ran_over who s buffer room).next ≡ Stop → led_to who first (joined parts ++ rest) ≡ (ran_over who s buffer room).state
+    pub led-there : {refusal : ℕ} → (ran_over who s buffer room).halt ≡ Some (Stop refusal) → led_to who first (joined parts ++ rest) ≡ (ran_over who s buffer room).state
     led-there e = turns-said who law (the-state who) done rest may ∙ none-counted blocks _ ∙ stop-said who law (the-state who) s buffer room rest may e

@@ -59,7 +59,7 @@ module _ (who : Teller records) (law : Lawful who) (first : who.State) (n : ℕ)
   ends (Stopped refusal) e t = record {
     last = last_turn (Stopped refusal) t;
     text = λ rest may. written_all law came.done rest may room t.0;
-    led = λ rest may. ap (λ (x : State who.State). x.follower) t.2 ∙ sym (led-there law came.done rest may room t.0);
+    led = λ rest may. ap (λ (x : State who.State). x.follower) t.1 ∙ sym (led-there law came.done rest may room t.0);
   }
   ends NotRead e t = record {
     last = last_turn NotRead t;

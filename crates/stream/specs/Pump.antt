@@ -1,14 +1,14 @@
 -- How a log goes from its input through whoever follows it to an output: what the pump does around its two calls, read and write. Who is the
 -- teller that follows it, over states of its type.
-use Rattle.std.specs.Prelude.{ℕ, suc, ◌≡◌, Bool, true, false, List, [], ◌∷◌, ◌++◌, length, eqb}
+use Rattle.std.specs.Prelude.{ℕ, suc, ◌≡◌, Bool, true, false, List, [], ◌∷◌, ◌++◌, length, eqb, Some}
 use Rattle.laws.specs.Choice.{pick}
 use Rattle.follow.specs.Follow.{Turn, run_of}
 use Rattle.follow.specs.Source.{records}
 use Rattle.follow.specs.Teller.{Teller}
 use Rattle.follow.specs.Whole.{joined, printed_from, led_to}
-use Rattle.follow.specs.declared.Next.{Next}
-use Rattle.follow.specs.declared.Next.TheVariants.{Go, Wait, Full, Stop}
-use Rattle.jobs.specs.declared.Ran.{Ran}
+use Rattle.follow.specs.declared.Halt.{Halt}
+use Rattle.follow.specs.declared.Halt.TheVariants.{Wait, Full, Stop}
+use Rattle.follow.specs.declared.Ran.{Ran}
 use Rattle.window.specs.Window.{start, Within, unused, past, at_front, HasRoom, Refilled}
 use Rattle.window.specs.declared.Window.{Window}
 use Rattle.stream.specs.declared.State.{State}
@@ -44,23 +44,21 @@ ReadMore s buffer s' buffer' = (s' ≡ seeing s s'.window) × Refilled s.window 
 
 -- the run's text is full, and is written; or it waits, its text is written, and more is read
 pub data Went (who : Teller records) (s : State who.State) (buffer : List ℕ) (room : ℕ) (s' : State who.State) (buffer' : List ℕ) : Type 0 where
-  emptied : (ran_over who s buffer room).next ≡ Full → s' ≡ ran_to who s buffer room → buffer' ≡ buffer
+  emptied : (ran_over who s buffer room).halt ≡ Some Full → s' ≡ ran_to who s buffer room → buffer' ≡ buffer
       → Went who s buffer room s' buffer'
-  refilled : (ran_over who s buffer room).next ≡ Wait → ReadMore (ran_to who s buffer room) buffer s' buffer'
+  refilled : (ran_over who s buffer room).halt ≡ Some Wait → ReadMore (ran_to who s buffer room) buffer s' buffer'
       → Went who s buffer room s' buffer'
 
-abbrev pub is_wait : Next → Bool
-is_wait Go = false
+abbrev pub is_wait : Halt → Bool
 is_wait Wait = true
 is_wait Full = false
-is_wait Stop = false
+is_wait (Stop refusal) = false
 
--- behind a run that does not wait, by why it ended and by the refusal
-abbrev pub how_after : Next → ℕ → How
-how_after Go refusal = On
-how_after Wait refusal = On
-how_after Full refusal = On
-how_after Stop refusal = Stopped refusal
+-- behind a run that does not wait, by why it ended
+abbrev pub how_after : Halt → How
+how_after Wait = On
+how_after Full = On
+how_after (Stop refusal) = Stopped refusal
 
 abbrev pub is_on : How → Bool
 is_on On = true
@@ -78,11 +76,11 @@ MoreReadAs NotWritten s buffer s' buffer' = ⊥
 -- behind a run whose text is written, by whether it waits
 abbrev pub BehindRun : {S : Type 0} → Bool → State S → Ran S → List ℕ → How → State S → List ℕ → Type 0
 BehindRun true s ran buffer how s' buffer' = MoreReadAs how (after_run s ran.state ran.used) buffer s' buffer'
-BehindRun false s ran buffer how s' buffer' = (how ≡ how_after ran.next ran.refusal) × (s' ≡ after_run s ran.state ran.used) × (buffer' ≡ buffer)
+BehindRun false s ran buffer how s' buffer' = (how ≡ how_after ran.halt) × (s' ≡ after_run s ran.state ran.used) × (buffer' ≡ buffer)
 
 -- behind a run, by whether its text is written
 abbrev pub BehindWrite : {S : Type 0} → Bool → State S → Ran S → List ℕ → How → State S → List ℕ → Type 0
-BehindWrite true s ran buffer how s' buffer' = BehindRun (is_wait ran.next) s ran buffer how s' buffer'
+BehindWrite true s ran buffer how s' buffer' = BehindRun (is_wait ran.halt) s ran buffer how s' buffer'
 BehindWrite false s ran buffer how s' buffer' = (how ≡ NotWritten) × (s' ≡ s) × (buffer' ≡ buffer)
 
 -- a turn, over a buffer and room for so much text: it stops exactly where its run does, unless a call fails. Where nothing is read,
@@ -90,10 +88,10 @@ BehindWrite false s ran buffer how s' buffer' = (how ≡ NotWritten) × (s' ≡ 
 abbrev pub TurnedAs : (who : Teller records) → How → State who.State → List ℕ → ℕ → State who.State → List ℕ → Type 0
 TurnedAs who On s buffer room s' buffer' = Went who s buffer room s' buffer' × Within s'.window (length buffer)
 TurnedAs who (Stopped refusal) s buffer room s' buffer' =
-    ((ran_over who s buffer room).next ≡ Stop) × ((ran_over who s buffer room).refusal ≡ refusal) × (s' ≡ ran_to who s buffer room)
+    ((ran_over who s buffer room).halt ≡ Some (Stop refusal)) × (s' ≡ ran_to who s buffer room)
 TurnedAs who NotRead s buffer room s' buffer' =
     let ran = ran_to who s buffer room in
-    ((ran_over who s buffer room).next ≡ Wait) × (s' ≡ seeing ran (at_front ran.window buffer)) × HasRoom ran.window buffer
+    ((ran_over who s buffer room).halt ≡ Some Wait) × (s' ≡ seeing ran (at_front ran.window buffer)) × HasRoom ran.window buffer
 TurnedAs who NotWritten s buffer room s' buffer' = s' ≡ s
 
 -- the status of the program: 0, or 3 of a log that was refused; 1 where the input or the output failed, or more came than turns can do

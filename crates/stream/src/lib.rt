@@ -15,9 +15,9 @@ ghost use Rattle.window.specs.Window.{Within};
 ghost use Rattle.stream.specs.Pump.{pump_start, ran_over, after_run, is_on, is_wait, how_after, MoreReadAs, BehindWrite, TurnedAs, ended_at, PumpedAs, status_of};
 
 use answers::{Answering, Asked};
-use follow::Next;
+use follow::{Halt, Ran};
 use handed::{Delivered, write_run};
-use jobs::{Follower, Ran};
+use jobs::Follower;
 use playback::Replay;
 use sheeting::Sheeting;
 use std::io;
@@ -76,7 +76,7 @@ fn begin<F: Follower>(follower: F) -> State<F>
 // A run over all that came and is not used.
 fn run_over<F: Follower>(state: State<F>, buffer: &[u8], text: &mut [u8]) -> Ran<F>
     requires { Within state.window (length buffer.now) }
-    ensures { Running (worker F.following) text.old (ran_over (worker F.following) state buffer.now (length text.old)) text.new result.next result.refusal result.state result.used result.to }
+    ensures { Running (worker F.following) text.old (ran_over (worker F.following) state buffer.now (length text.old)) text.new result }
 {
     let window = state.window;
     let from = window.from;
@@ -120,19 +120,19 @@ fn read_more<R: Read, F: Follower>(
 }
 
 // Whether a run waits for more of the log.
-fn waits(next: Next) -> bool
-    ensures { result ≡ is_wait next }
+fn waits(halt: Halt) -> bool
+    ensures { result ≡ is_wait halt }
 {
-    matches!(next, Next::Wait)
+    matches!(halt, Halt::Wait)
 }
 
-// What a turn comes to behind a run that does not wait. No run ends with Go.
-fn how_after(next: Next, refusal: u8) -> How
-    ensures { result ≡ how_after next refusal }
+// What a turn comes to behind a run that does not wait.
+fn how_after(halt: Halt) -> How
+    ensures { result ≡ how_after halt }
 {
-    match next {
-        Next::Go | Next::Wait | Next::Full => How::On,
-        Next::Stop => How::Stopped(refusal),
+    match halt {
+        Halt::Wait | Halt::Full => How::On,
+        Halt::Stop(refusal) => How::Stopped(refusal),
     }
 }
 
@@ -153,12 +153,12 @@ fn after_write<R: Read, F: Follower>(
         };
     }
     let next = after_run(state, ran);
-    let why = ran.next;
-    if waits(why) {
+    let halt = ran.halt;
+    if waits(halt) {
         return read_more(input, next, buffer);
     }
     Turned {
-        how: how_after(why, ran.refusal),
+        how: how_after(halt),
         state: next,
     }
 }
