@@ -1,5 +1,7 @@
 pub mod Tests
 pub mod Sums
+pub mod Eight
+pub mod Drops
 pub mod Lengths
 pub mod Pieces
 pub mod Written

@@ -13,13 +13,13 @@ pub returns : goal.returns
 unfolding tally_in
 returns c =
     let a = c.args in
-    let fits : SFits w64 c.sum_of.result = search rules in
-    let fits-smallest : SFits w16 c.signed_of-smallest.result = search rules in
-    let fits-largest : SFits w16 c.signed_of-largest.result = search rules in
-    let sum : to_z w64 (of_z w64 c.sum_of.result) ≡ (tally_in (drop a.at a.s.now)).sum =
-    to_z-of_z fits ∙ c.sum_of.ensures ∙ ap (to_z w64) (c.eight_at.ensures ∙ ap eight_in (sym (drop-drop 5 a.at a.s.now))) in
-    let told : c.extremes_of.result ≡ extremes_of (get_or a.s.now a.at 0) c.signed_of-smallest.result c.signed_of-largest.result =
+    let fits : SFits w64 c.cast_signed.result = search rules in
+    let fits-smallest : SFits w16 c.from_be_bytes-smallest.result = search rules in
+    let fits-largest : SFits w16 c.from_be_bytes-largest.result = search rules in
+    let sum : to_z w64 (of_z w64 c.cast_signed.result) ≡ (tally_in (drop a.at a.s.now)).sum =
+    to_z-of_z fits ∙ c.cast_signed.ensures ∙ ap (to_z w64) (c.eight_at.ensures ∙ ap eight_in (sym (drop-drop 5 a.at a.s.now))) in
+    let told : c.extremes_of.result ≡ extremes_of (get_or a.s.now a.at 0) c.from_be_bytes-smallest.result c.from_be_bytes-largest.result =
     simp (c.extremes_of.ensures, to_z-of_z fits-smallest, to_z-of_z fits-largest) in
     let extremes : c.extremes_of.result ≡ (tally_in (drop a.at a.s.now)).extremes =
-    told ∙ simp (c.signed_of-smallest.ensures, c.signed_of-largest.ensures, get_or-drop, add-zero) in
+    told ∙ simp (c.from_be_bytes-smallest.ensures, c.from_be_bytes-largest.ensures, get_or-drop, add-zero) in
     λ i. record { extremes = extremes i; sum = sum i }
