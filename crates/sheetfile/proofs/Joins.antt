@@ -10,9 +10,9 @@ use lib.IntN.{ℤ, pos, negsuc, ◌+ℤ◌}
 use lib.Signed.{lt_z, le_z}
 use Rattle.laws.specs.Choice.{pick, both}
 use Rattle.laws.proofs.Finite.{left, right, picked}
+use Rattle.std.specs.Prelude.{Option, Some, None}
 use Rattle.sheets.specs.Sheets.{smaller, larger, extremes_over, tally_over, axes_over, ranges_over, sheet_over, month_over, month_fits, empty_month, month_joined}
 use Rattle.sheets.specs.declared.Extremes.{Extremes}
-use Rattle.sheets.specs.declared.Extremes.TheVariants.{NoSample, Of}
 use Rattle.sheets.specs.declared.Tally.{Tally}
 use Rattle.sheets.specs.declared.ByAxis.{ByAxis}
 use Rattle.sheets.specs.declared.ByRange.{ByRange}
@@ -60,11 +60,11 @@ is-zero : (z : ℤ) → is_zero z ≡ true → z ≡ pos 0
 is-zero (pos n) e = let h = eqb-true n 0 e in rw h
 is-zero (negsuc n) e = no e
 
-over-goes : (e e' : Extremes) (a b : ℤ) → goes_with e a ≡ true → goes_with e' b ≡ true → goes_with (extremes_over e e') (a +ℤ b) ≡ true
-over-goes NoSample NoSample a b p q = rw (is-zero a p, is-zero b q)
-over-goes NoSample (Of s' l') a b p q = q
-over-goes (Of s l) NoSample a b p q = p
-over-goes (Of s l) (Of s' l') a b p q = extremes-ordered s l s' l' p q
+over-goes : (e e' : Option Extremes) (a b : ℤ) → goes_with e a ≡ true → goes_with e' b ≡ true → goes_with (extremes_over e e') (a +ℤ b) ≡ true
+over-goes None None a b p q = rw (is-zero a p, is-zero b q)
+over-goes None (Some e') a b p q = q
+over-goes (Some e) None a b p q = p
+over-goes (Some e) (Some e') a b p q = extremes-ordered e.smallest e.largest e'.smallest e'.largest p q
 
 tally-whole : (a b : Tally) → tally_is_whole a ≡ true → tally_is_whole b ≡ true → tally_is_whole (tally_over a b) ≡ true
 unfolding tally_is_whole

@@ -6,7 +6,8 @@ use Rattle.laws.proofs.Outcome.{settles, meet}
 use Rattle.sheets.specs.contracts.join_number as join-number
 use Rattle.sheets.specs.contracts.join_counts as join-counts
 use Rattle.sheets.specs.contracts.join_sums as join-sums
-use Rattle.sheets.specs.contracts.Extremes.over as extremes-over
+use Rattle.sheets.specs.contracts.Extremes.wider as extremes-wider
+use Rattle.sheets.specs.contracts.extremes_over as extremes-over
 use Rattle.sheets.specs.contracts.Tally.none as tally-none
 use Rattle.sheets.specs.contracts.Tally.joined as tally-joined
 use Rattle.sheets.specs.contracts.ByAxis.none as byaxis-none
@@ -26,6 +27,9 @@ join-counts-settled = settles (λ κs a r r' s s' p q. (meet p q, refl))
 
 pub join-sums-settled : Settled join-sums.ended (λ M 𝓤. join-sums.clauses) (λ M 𝓤. join-sums.spec)
 join-sums-settled = settles (λ κs a r r' s s' p q. (meet p q, refl))
+
+pub extremes-wider-settled : Settled extremes-wider.ended (λ M 𝓤. extremes-wider.clauses) (λ M 𝓤. extremes-wider.spec)
+extremes-wider-settled = settles (λ κs a r r' s s' p q. (meet p q, refl))
 
 pub extremes-over-settled : Settled extremes-over.ended (λ M 𝓤. extremes-over.clauses) (λ M 𝓤. extremes-over.spec)
 extremes-over-settled = settles (λ κs a r r' s s' p q. (meet p q, refl))

@@ -1,11 +1,10 @@
 -- Q-8: "one sheet over many logs: samples accepted, taken, held at the end, lost, and held when the FIFO was cleared; per range and axis smallest, largest
 -- (none where no sample came) and signed sum of stored counts; clock total." The numbers of a sheet are exact here, and without bounds; `fits` says
 -- which of them go into 64 bits.
-use Rattle.std.specs.Prelude.{ℕ, ◌+◌, ◌^◌, Bool, ltb, ℤ, pos, ◌+ℤ◌}
+use Rattle.std.specs.Prelude.{ℕ, ◌+◌, ◌^◌, Bool, ltb, Option, Some, None, ℤ, pos, ◌+ℤ◌}
 use Rattle.std.specs.Int.Signed.{mag, lt_z}
 use Rattle.laws.specs.Choice.{pick, both}
 use Rattle.sheets.specs.declared.Extremes.{Extremes}
-use Rattle.sheets.specs.declared.Extremes.TheVariants.{NoSample, Of}
 use Rattle.sheets.specs.declared.Tally.{Tally}
 use Rattle.sheets.specs.declared.ByAxis.{ByAxis}
 use Rattle.sheets.specs.declared.ByRange.{ByRange}
@@ -21,7 +20,7 @@ use Rattle.sheets.specs.declared.MonthJoined.{MonthJoined}
 
 -- ---- what nothing comes to
 abbrev pub no_tally : Tally
-no_tally = record { extremes = NoSample; sum = pos 0 }
+no_tally = record { extremes = None; sum = pos 0 }
 
 abbrev pub no_tallies : ByAxis
 no_tallies = record { x = no_tally; y = no_tally; z = no_tally }
@@ -42,10 +41,18 @@ smaller a b = pick (lt_z b a) b a
 abbrev pub larger : ℤ → ℤ → ℤ
 larger a b = pick (lt_z a b) b a
 
-abbrev pub extremes_over : Extremes → Extremes → Extremes
-extremes_over NoSample e = e
-extremes_over (Of smallest largest) NoSample = Of smallest largest
-extremes_over (Of smallest largest) (Of smallest' largest') = Of (smaller smallest smallest') (larger largest largest')
+abbrev pub wider : Extremes → Extremes → Extremes
+wider a b = record { smallest = smaller a.smallest b.smallest; largest = larger a.largest b.largest }
+
+-- of some counts
+abbrev pub from_to : ℤ → ℤ → Option Extremes
+from_to smallest largest = Some (record { smallest = smallest; largest = largest })
+
+-- where no sample came to one of them, the other's
+abbrev pub extremes_over : Option Extremes → Option Extremes → Option Extremes
+extremes_over None e = e
+extremes_over (Some a) None = Some a
+extremes_over (Some a) (Some b) = Some (wider a b)
 
 abbrev pub tally_over : Tally → Tally → Tally
 tally_over a b = record { extremes = extremes_over a.extremes b.extremes; sum = a.sum +ℤ b.sum }

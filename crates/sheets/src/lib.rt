@@ -4,21 +4,21 @@
 
 ghost use Rattle.std.specs.Prelude.{◌≡◌};
 ghost use Rattle.laws.specs.Choice.{both};
-ghost use Rattle.sheets.specs.Sheets.{no_tally, no_tallies, no_ranges, empty_sheet, empty_month, smaller, larger, extremes_over, count_joined, sum_joined, tally_joined, axes_joined, ranges_joined, sheet_joined, month_joined, join_number};
+ghost use Rattle.sheets.specs.Sheets.{no_tally, no_tallies, no_ranges, empty_sheet, empty_month, wider, extremes_over, count_joined, sum_joined, tally_joined, axes_joined, ranges_joined, sheet_joined, month_joined, join_number};
 
 use laws::both;
 
-// The smallest and the largest of some stored counts: none where no sample came.
-#[derive(Clone, Copy)]
-pub enum Extremes {
-    NoSample,
-    Of(i16, i16),
+// The smallest and the largest of some stored counts.
+#[derive(Clone, Copy, Debug, PartialEq, Eq)]
+pub struct Extremes {
+    pub smallest: i16,
+    pub largest: i16,
 }
 
-// What the stored counts of one axis in one range come to: their extremes, and their sum.
+// What the stored counts of one axis in one range come to: their extremes, none where no sample came, and their sum.
 #[derive(Clone, Copy)]
 pub struct Tally {
-    pub extremes: Extremes,
+    pub extremes: Option<Extremes>,
     pub sum: i64,
 }
 
@@ -156,33 +156,26 @@ pub fn join_sums(a: i64, b: i64) -> SumJoined
     }
 }
 
-fn smaller_of(a: i16, b: i16) -> i16
-    ensures { result ≡ smaller a b }
-{
-    if b < a { b } else { a }
-}
-
-fn larger_of(a: i16, b: i16) -> i16
-    ensures { result ≡ larger a b }
-{
-    if a < b { b } else { a }
-}
-
 impl Extremes {
-    // Over both: where no sample came to one of them, the other's.
-    pub fn over(self, more: Extremes) -> Self
-        ensures { result ≡ extremes_over self more }
+    // Over both.
+    pub fn wider(self, more: Extremes) -> Self
+        ensures { result ≡ wider self more }
     {
-        let Extremes::Of(smallest, largest) = self else {
-            return more;
-        };
-        let Extremes::Of(smallest_more, largest_more) = more else {
-            return self;
-        };
-        Extremes::Of(
-            smaller_of(smallest, smallest_more),
-            larger_of(largest, largest_more),
-        )
+        Extremes {
+            smallest: self.smallest.min(more.smallest),
+            largest: self.largest.max(more.largest),
+        }
+    }
+}
+
+// Over both: where no sample came to one of them, the other's.
+pub fn extremes_over(first: Option<Extremes>, more: Option<Extremes>) -> Option<Extremes>
+    ensures { result ≡ extremes_over first more }
+{
+    match (first, more) {
+        (Some(own), Some(others)) => Some(own.wider(others)),
+        (Some(_), None) => first,
+        (None, _) => more,
     }
 }
 
@@ -191,7 +184,7 @@ impl Tally {
         ensures { result ≡ no_tally }
     {
         Tally {
-            extremes: Extremes::NoSample,
+            extremes: None,
             sum: 0,
         }
     }
@@ -201,12 +194,10 @@ impl Tally {
     {
         let sum = join_sums(self.sum, more.sum);
         if sum.fits {
-            let extremes = self.extremes;
-            let others = more.extremes;
             return TallyJoined {
                 fits: true,
                 tally: Tally {
-                    extremes: extremes.over(others),
+                    extremes: extremes_over(self.extremes, more.extremes),
                     sum: sum.sum,
                 },
             };

@@ -3,17 +3,16 @@ use Rattle.std.specs.Prelude.{ℕ, true, ℤ}
 use Rattle.laws.specs.Choice.{both}
 use Rattle.codes.specs.declared.Range.{Range}
 use Rattle.codes.specs.declared.Range.TheVariants.{G2, G4, G8, G16, Reserved}
-use Rattle.sheets.specs.Sheets.{no_ranges, count_joined, axes_joined}
+use Rattle.sheets.specs.Sheets.{no_ranges, from_to, count_joined, axes_joined}
 use Rattle.sheets.specs.declared.ByAxis.{ByAxis}
 use Rattle.sheets.specs.declared.ByRange.{ByRange}
-use Rattle.sheets.specs.declared.Extremes.TheVariants.{Of}
 use Rattle.sheets.specs.declared.RangesJoined.{RangesJoined}
 use Rattle.sheets.specs.declared.Tally.{Tally}
 use Rattle.tally.specs.declared.Sums.{Sums}
 
 -- ---- one sample
 abbrev pub one_tally : ℤ → Tally
-one_tally count = record { extremes = Of count count; sum = count }
+one_tally count = record { extremes = from_to count count; sum = count }
 
 -- "all three axes, whatever 0x3E selects"
 abbrev pub one_sample : ℤ → ℤ → ℤ → ByAxis

@@ -22,7 +22,10 @@ fn one_tally(count: i16) -> Tally
     ensures { result ≡ one_tally count }
 {
     Tally {
-        extremes: Extremes::Of(count, count),
+        extremes: Some(Extremes {
+            smallest: count,
+            largest: count,
+        }),
         sum: count as i64,
     }
 }

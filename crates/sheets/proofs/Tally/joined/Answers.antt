@@ -18,7 +18,7 @@ returns-then-sum c =
     let t : sum_fits (p.self.sum +ℤ p.more.sum) ≡ true = rw (c.join_sums-sum.ensures, to_z-of_z a, to_z-of_z b) at c.if-sum.true in
     let e : c.join_sums-sum.result ≡ sum_joined p.self.sum p.more.sum = simp (c.join_sums-sum.ensures, to_z-of_z a, to_z-of_z b) in
     let sum : c.join_sums-sum.result.sum ≡ p.self.sum +ℤ p.more.sum = rw (e, t) in
-    let extremes : c.over.result ≡ extremes_over p.self.extremes p.more.extremes = c.over.ensures in
+    let extremes : c.extremes_over.result ≡ extremes_over p.self.extremes p.more.extremes = c.extremes_over.ensures in
     rw t (λ i. record { fits = true; tally = record { extremes = extremes i; sum = (to_z-of_z s ∙ sum) i } })
 
 pub returns : goal.returns
