@@ -1,12 +1,12 @@
 -- The eight bytes of a number, as std says them.
 -- Assumes nothing.
-use Prim.Native.Nat.{ℕ, ◌*◌, ◌+◌, ◌/◌, ◌%◌, ◌^◌, ◌≤◌, ◌<◌}
-use mathlib.Core.List.{List, ◌++◌}
+use Prim.Native.Nat.{ℕ, ◌/◌, ◌%◌, ◌^◌, ◌≤◌, ◌<◌}
+use mathlib.Core.List.{List}
 use mathlib.Core.Path.{◌≡◌}
 use native.Mathlib.Omega.{arith}
-use lib.ListN.{length, get_or, take, drop}
+use lib.ListN.{length, take}
 use lib.Seq.{get_or-drop}
-use mir.Syntax.{w32, w64}
+use mir.Syntax.{w64}
 use Rattle.std.specs.Int.{to_be_bytes, from_be_bytes}
 use Rattle.benchlog.proofs.Bodies.{listed}
 use Rattle.sheetfile.specs.Format.{big_endian8}

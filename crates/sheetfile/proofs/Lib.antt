@@ -1,7 +1,5 @@
-pub mod Tests
 pub mod Sums
 pub mod Eight
-pub mod Drops
 pub mod Lengths
 pub mod Pieces
 pub mod Written

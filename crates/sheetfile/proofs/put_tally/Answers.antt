@@ -1,14 +1,13 @@
 -- The flag, the smallest, the largest and the sum are written one behind the other.
 use Prim.Native.Nat.{◌+◌, ◌-◌}
-use mathlib.Core.List.{◌∷◌, ◌++◌}
-use mathlib.Core.Path.{◌≡◌, refl, ◌∙◌}
+use mathlib.Core.Path.{refl, ◌∙◌}
 use native.Mathlib.Omega.{arith}
 use mir.Facts.{to_z-of_z, Fits-of_z}
 use mir.Syntax.{w16, w64}
-use mir.Val.{SFits, to_z, of_z}
+use mir.Val.{SFits}
 use borrow.Author.Rules.{rules}
 use Rattle.benchlog.specs.Format.{signed}
-use Rattle.benchlog.proofs.Places.{Put, put_first, put_on}
+use Rattle.benchlog.proofs.Places.{put_first, put_on}
 use Rattle.benchlog.proofs.Fields.{two-bytes, copied-behind}
 use Rattle.sheetfile.specs.Format.{big_endian8, tally_bytes}
 use Rattle.sheetfile.proofs.Lengths.{length-eight}
