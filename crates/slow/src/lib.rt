@@ -108,13 +108,15 @@ impl Slow {
     {
         let wait = wait_of(settings.points);
         let point = judge(settings.axes, settings.threshold, slopes);
-        self.with_spell(self.spell().sample(
-            Stopwatch::started(),
-            calm_shown(point, wait),
-            wait,
-            settings.unlatched,
-            settings.hold,
-        ))
+        self.with_spell(
+            self.spell().sample(
+                Stopwatch::started(),
+                calm_shown(point, wait),
+                wait,
+                settings.unlatched,
+                settings.hold,
+            ),
+        )
     }
 
     // An accepted sample comes, with its slopes.
