@@ -9,7 +9,7 @@ use Rattle.laws.specs.Table.{up_from}
 use Rattle.laws.proofs.Table.{entry}
 use Rattle.table.specs.Rows.{row_of, reset_bytes, paper_line_of, listed, reserved_addresses, refused_bits}
 use Rattle.table.specs.declared.Row.{Row}
-use Rattle.table.proofs.Rows.{reset-at, reset-length}
+use Rattle.table.proofs.Rows.{reset-length}
 use Rattle.table.proofs.reset_bytes.Goals as goal
 
 pub returns : goal.returns
