@@ -2,12 +2,12 @@
 #![tactic(auto)]
 
 ghost use Rattle.std.specs.Prelude.{◌≡◌, ◌++◌, ◌+◌, ◌*◌, ◌≤◌, nat_abs, length};
-ghost use Rattle.benchlog.specs.Writer.{lacks_room};
 ghost use Rattle.text.specs.Text.{most_digits, decimal, left_in, place_after};
 ghost use Rattle.wording.specs.Wording.{Spelt, column, signed_column};
 ghost use Rattle.measure.specs.Measure.{g_text};
 ghost use Rattle.sheetlines.specs.Lines.{count_line, counts_text, in_g_text, numbers_text, extremes_text, tally_line, axes_text, ranges_text, logs_line, month_text, most_in_g, longest_sheet};
 
+use benchlog::lacks_room;
 use codes::Range;
 use measure::put_g;
 use sheets::{ByAxis, ByRange, Extremes, Month, Sheet, Tally};
@@ -15,16 +15,6 @@ use text::{put_number, put_word};
 
 // No month has a longer text.
 pub const LONGEST_SHEET: usize = 1867;
-
-fn lacks_room(room: usize, at: usize) -> bool
-    ensures { result ≡ lacks_room room at longest_sheet }
-{
-    if room < at {
-        true
-    } else {
-        room - at < LONGEST_SHEET
-    }
-}
 
 // How far a number is from 0: the least of all too.
 fn size_of(n: i64) -> u64
@@ -219,7 +209,7 @@ fn write_month(out: &mut [u8], at: usize, month: Month) -> usize
 pub fn put_month(out: &mut [u8], at: usize, month: Month) -> usize
     ensures { (result ≡ place_after longest_sheet out.old at (month_text month)) × (out.new ≡ left_in longest_sheet out.old at (month_text month)) }
 {
-    if lacks_room(out.len(), at) {
+    if lacks_room(out.len(), at, LONGEST_SHEET) {
         return at;
     }
     write_month(out, at, month)
