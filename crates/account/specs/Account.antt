@@ -4,9 +4,8 @@ use Rattle.laws.specs.Choice.{pick, both}
 use Rattle.codes.specs.Addresses.{range_at, frames_at, control_at}
 use Rattle.codes.specs.declared.Mode.{Mode}
 use Rattle.codes.specs.declared.Range.{Range}
-use Rattle.registers.specs.Answers.{accepted}
+use Rattle.registers.specs.Answers.{Answer, accepted}
 use Rattle.registers.specs.Deeds.{is_reset}
-use Rattle.registers.specs.declared.Answer.{Answer}
 use Rattle.events.specs.Event.{Event, power_up, write, read, sample, cycle, clock}
 use Rattle.counts.specs.Counts.{sum, less, left, with_readouts, arrived, no_doubts, account_moved}
 use Rattle.counts.specs.declared.Account.{Account}

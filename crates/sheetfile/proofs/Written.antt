@@ -4,6 +4,7 @@ use Prim.Native.Nat.{ℕ, ◌+◌, ◌*◌, ◌/◌, ◌%◌}
 use mathlib.Core.Bool.{true}
 use mathlib.Core.List.{List, [], ◌++◌}
 use mathlib.Core.Path.{◌≡◌, refl}
+use Rattle.std.specs.Prelude.{Ok}
 use native.Mathlib.Omega.{arith}
 use borrow.Author.Tests.{eq-eqb}
 use lib.IntN.{ℤ}
@@ -11,10 +12,10 @@ use lib.ListN.{drop, length}
 use mir.Syntax.{w64}
 use mir.Val.{SFits}
 use mir.Facts.{to_z-of_z}
+use Rattle.std.specs.Prelude.{Option, Some, None}
 use Rattle.laws.proofs.Words.{joined}
 use Rattle.benchlog.proofs.Signed.{joined4}
 use Rattle.sheets.specs.declared.Extremes.{Extremes}
-use Rattle.sheets.specs.declared.Extremes.TheVariants.{NoSample, Of}
 use Rattle.sheets.specs.declared.Tally.{Tally}
 use Rattle.sheets.specs.declared.ByAxis.{ByAxis}
 use Rattle.sheets.specs.declared.ByRange.{ByRange}
@@ -22,7 +23,6 @@ use Rattle.sheets.specs.declared.Month.{Month}
 use Rattle.sheetfile.specs.Format.{big_endian8, tally_bytes, axes_bytes, ranges_bytes, head_bytes, four_numbers, counts_bytes, encode, size}
 use Rattle.sheetfile.specs.Reader.{four_in, eight_in, tally_in, axes_in, ranges_in, month_in, tally_stands, axes_stand, ranges_stand, head_stands, is_sheet, decode}
 use Rattle.sheetfile.specs.Whole.{is_whole, ExtremesFit, TallyFits, AxesFit, RangesFit, NumbersFit}
-use Rattle.sheetfile.specs.declared.MonthRead.TheVariants.{Is}
 use Rattle.sheetfile.proofs.Lengths.{length-encode}
 
 pub eight-read : (n : ℕ) (rest : List ℕ) → eight_in (big_endian8 n ++ rest) ≡ n
@@ -32,18 +32,18 @@ eight-read n rest =
     rw (joined4 (n / 4294967296), joined4 (n % 4294967296)) whole
 
 -- ---- a tally, whatever follows it
-tally-read-of : (e : Extremes) (sum : ℤ) (rest : List ℕ) → ExtremesFit e → SFits w64 sum → tally_in (tally_bytes (record { extremes = e; sum = sum }) ++ rest) ≡ record { extremes = e; sum = sum }
+tally-read-of : (e : Option Extremes) (sum : ℤ) (rest : List ℕ) → ExtremesFit e → SFits w64 sum → tally_in (tally_bytes (record { extremes = e; sum = sum }) ++ rest) ≡ record { extremes = e; sum = sum }
 unfolding tally_bytes tally_in
-tally-read-of NoSample sum rest e f = rw (eight-read, to_z-of_z f)
-tally-read-of (Of smallest largest) sum rest e f = rw (joined e.0, joined e.1, eight-read, to_z-of_z f)
+tally-read-of None sum rest e f = rw (eight-read, to_z-of_z f)
+tally-read-of (Some some) sum rest e f = rw (joined e.0, joined e.1, eight-read, to_z-of_z f)
 
 tally-read : (t : Tally) (rest : List ℕ) → TallyFits t → tally_in (tally_bytes t ++ rest) ≡ t
 tally-read t rest f = tally-read-of t.extremes t.sum rest f.extremes f.sum
 
-tally-stands-of : (e : Extremes) (sum : ℤ) (rest : List ℕ) → tally_stands (tally_bytes (record { extremes = e; sum = sum }) ++ rest) ≡ true
+tally-stands-of : (e : Option Extremes) (sum : ℤ) (rest : List ℕ) → tally_stands (tally_bytes (record { extremes = e; sum = sum }) ++ rest) ≡ true
 unfolding tally_bytes four_in tally_stands
-tally-stands-of NoSample sum rest = refl
-tally-stands-of (Of smallest largest) sum rest = refl
+tally-stands-of None sum rest = refl
+tally-stands-of (Some some) sum rest = refl
 
 tally-stands : (t : Tally) (rest : List ℕ) → tally_stands (tally_bytes t ++ rest) ≡ true
 tally-stands t rest = tally-stands-of t.extremes t.sum rest
@@ -118,7 +118,7 @@ module _ (m : Month) where
         refused = refused i;
       }
 
-  pub written_read : NumbersFit m → is_whole m ≡ true → decode (encode m) ≡ Is m
+  pub written_read : NumbersFit m → is_whole m ≡ true → decode (encode m) ≡ Ok m
   unfolding is_sheet decode
   written_read f w =
       simp (eq-eqb (length (encode m)) size (length-encode m), head-stands, behind-counts, ranges-stand m.sheet.ranges, month-read f, w)

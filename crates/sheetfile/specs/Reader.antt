@@ -1,19 +1,18 @@
 -- Q-8: "what is no sheet is refused". Each part is read at the head of the bytes that are left.
-use Rattle.std.specs.Prelude.{ℕ, ◌+◌, ◌*◌, Bool, List, eqb, ℤ, length, get_or, drop}
+use Rattle.std.specs.Prelude.{ℕ, ◌+◌, ◌*◌, Bool, List, Option, None, Result, Ok, Err, eqb, ℤ, length, get_or, drop}
 use Rattle.std.specs.Int.{w64}
 use Rattle.std.proofs.Common.{to_z}
 use Rattle.laws.specs.Choice.{pick, both}
 use Rattle.benchlog.specs.Reader.{four_at, signed_at}
+use Rattle.sheets.specs.Sheets.{from_to}
 use Rattle.sheets.specs.declared.Extremes.{Extremes}
-use Rattle.sheets.specs.declared.Extremes.TheVariants.{NoSample, Of}
 use Rattle.sheets.specs.declared.Tally.{Tally}
 use Rattle.sheets.specs.declared.ByAxis.{ByAxis}
 use Rattle.sheets.specs.declared.ByRange.{ByRange}
 use Rattle.sheets.specs.declared.Month.{Month}
 use Rattle.sheetfile.specs.Format.{mark, version, number_length, tally_length, axes_length, counts_place, ranges_place, size}
 use Rattle.sheetfile.specs.Whole.{is_whole}
-use Rattle.sheetfile.specs.declared.MonthRead.{MonthRead}
-use Rattle.sheetfile.specs.declared.MonthRead.TheVariants.{Is, NoSheet}
+use Rattle.sheetfile.specs.declared.NoSheet.{NoSheet}
 
 -- ---- what the bytes say
 -- four bytes, and eight, the highest first
@@ -23,8 +22,8 @@ four_in s = four_at s 0
 unfoldable pub eight_in : List ℕ → ℕ
 eight_in s = four_in s * 4294967296 + four_in (drop 4 s)
 
-abbrev pub extremes_of : ℕ → ℤ → ℤ → Extremes
-extremes_of flag smallest largest = pick (eqb flag 0) NoSample (Of smallest largest)
+abbrev pub extremes_of : ℕ → ℤ → ℤ → Option Extremes
+extremes_of flag smallest largest = pick (eqb flag 0) None (from_to smallest largest)
 
 unfoldable pub tally_in : List ℕ → Tally
 tally_in s = record { extremes = extremes_of (get_or s 0 0) (signed_at s 1) (signed_at s 3); sum = to_z w64 (eight_in (drop 5 s)) }
@@ -72,5 +71,8 @@ head_stands s = both (eqb (four_in s) mark) (eqb (get_or s 4 0) version)
 unfoldable pub is_sheet : List ℕ → Bool
 is_sheet s = both (eqb (length s) size) (both (head_stands s) (both (ranges_stand (drop ranges_place s)) (is_whole (month_in s))))
 
-unfoldable pub decode : List ℕ → MonthRead
-decode s = pick (is_sheet s) (Is (month_in s)) NoSheet
+abbrev pub no_sheet : NoSheet
+no_sheet = record {}
+
+unfoldable pub decode : List ℕ → Result Month NoSheet
+decode s = pick (is_sheet s) (Ok (month_in s)) (Err no_sheet)
