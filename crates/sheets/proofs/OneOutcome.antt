@@ -3,7 +3,7 @@
 use mathlib.Core.Path.{refl}
 use Rattle.laws.specs.Outcome.{Settled}
 use Rattle.laws.proofs.Outcome.{settles, meet}
-use Rattle.sheets.specs.contracts.TooLarge.number as number
+use Rattle.sheets.specs.contracts.U8FromTooLarge.from as number
 use Rattle.sheets.specs.contracts.join_counts as join-counts
 use Rattle.sheets.specs.contracts.join_sums as join-sums
 use Rattle.sheets.specs.contracts.extremes_over as extremes-over

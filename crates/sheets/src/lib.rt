@@ -64,10 +64,10 @@ pub struct TooLarge;
 // The refusal of a total that would not fit.
 pub const TOO_LARGE: u8 = 15;
 
-impl TooLarge {
-    pub fn number(self) -> u8
-        ensures { result ≡ too_large }
-    {
+impl From<TooLarge> for u8 {
+    ghost from_gives = { λ _ number. number ≡ too_large };
+
+    fn from(_refusal: TooLarge) -> u8 {
         TOO_LARGE
     }
 }

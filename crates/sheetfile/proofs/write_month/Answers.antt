@@ -1,14 +1,25 @@
-use mathlib.Core.Path.{refl}
-use Rattle.benchlog.specs.Writer.{room_for}
+use Prim.Native.Nat.{◌+◌, ◌≤◌}
+use mathlib.Core.Path.{◌≡◌, refl, sym, ◌∙◌}
+use native.Mathlib.Omega.{arith}
+use borrow.Author.Rules.{rules}
+use Rattle.std.specs.Prelude.{Ok, Err}
+use Rattle.benchlog.specs.Writer.{written}
+use Rattle.benchlog.proofs.Places.{had-room}
+use Rattle.sheetfile.specs.Format.{encode}
 use Rattle.sheetfile.proofs.Lengths.{length-encode}
 use Rattle.sheetfile.proofs.write_month.Goals as goal
 
-pub returns-then-lacks_room : goal.returns-then-lacks_room
-unfolding room_for
-returns-then-lacks_room c =
-    rw (length-encode c.args.month) (simp (← c.lacks_room.ensures, c.if-lacks_room.true) (refl, refl))
+pub returns-in_err-next : goal.returns-in_err-next
+returns-in_err-next c =
+    let a = c.args in
+    let is : written a.out.now a.place (encode a.month) ≡ Err c.in_err-next.field-0.0 = rw (length-encode a.month) (sym c.room_for.ensures ∙ c.in_err-next.was) in
+    rw is (search rules, refl)
+
+pub put_month-requires : goal.put_month-requires
+put_month-requires c = let room = (had-room _ _ _ _ (sym c.room_for.ensures ∙ c.in_ok-next.was)).0 in omega arith
 
 pub returns : goal.returns
-unfolding room_for
 returns c =
-    rw (length-encode c.args.month) (simp (← c.lacks_room.ensures, c.if-lacks_room.false) (refl, c.put_month.ensures.0))
+    let a = c.args in
+    let is : written a.out.now a.place (encode a.month) ≡ Ok c.in_ok-next.next = rw (length-encode a.month) (sym c.room_for.ensures ∙ c.in_ok-next.was) in
+    rw is (refl, c.put_month.ensures.0)
