@@ -75,7 +75,7 @@ pub const CONTROL_AT: usize = 0x3E;
 pub const FRAMES_AT: usize = 0x3F;
 
 // What the low nibble of 0x0F means.
-#[derive(Clone, Copy)]
+#[derive(Clone, Copy, PartialEq, Eq)]
 pub enum Range {
     G2,
     G4,
@@ -85,7 +85,7 @@ pub enum Range {
 }
 
 // What the low nibble of 0x21 means: a status is not latched, is latched, or is held for so many microseconds.
-#[derive(Clone, Copy)]
+#[derive(Clone, Copy, PartialEq, Eq)]
 pub enum Latch {
     Unlatched,
     Latched,
@@ -93,7 +93,7 @@ pub enum Latch {
 }
 
 // The mode bits of 0x3E. The reserved code is refused before it can be stored.
-#[derive(Clone, Copy)]
+#[derive(Clone, Copy, PartialEq, Eq)]
 pub enum Mode {
     Bypass,
     Fifo,
@@ -102,7 +102,7 @@ pub enum Mode {
 }
 
 // The axes that 0x3E selects.
-#[derive(Clone, Copy)]
+#[derive(Clone, Copy, PartialEq, Eq)]
 pub enum Axes {
     All,
     X,

@@ -3,10 +3,11 @@
 use Rattle.std.specs.Prelude.{ℕ, suc, Bool, true, false, List, ◌≡◌}
 use Rattle.sheets.specs.Sheets.{empty_month}
 use Rattle.sheets.specs.declared.Month.{Month}
-use Rattle.jobs.specs.Job.{printed_by, to_sheet}
-use Rattle.jobs.specs.declared.Task.TheVariants.{Sheet}
+use Rattle.follow.specs.Whole.{printed_from}
+use Rattle.sheeting.specs.Sheeting.{sheeter, start}
+use Rattle.sheeting.specs.declared.Sheeting.{Sheeting}
 use Rattle.arguments.specs.declared.SheetWanted.{SheetWanted}
-use Rattle.arguments.specs.declared.SheetWanted.TheVariants.{Wrong, Print, Raw, Join, JoinRaw}
+use Rattle.arguments.specs.declared.SheetWanted.TheVariants.{Print, Raw, Join, JoinRaw}
 use Rattle.stream.specs.Pump.{PumpedAs}
 use Rattle.stream.specs.declared.Ended.{Ended}
 use Rattle.gathering.specs.Gathering.{log_added, sheet_added, worse_of, month_status}
@@ -17,14 +18,12 @@ use Rattle.sheet.specs.declared.handed.Printed.{Printed}
 
 -- ---- what is asked for: whether sheets are joined, and whether the sheet is written as bytes
 abbrev pub joins : SheetWanted → Bool
-joins Wrong = false
 joins Print = false
 joins Raw = false
 joins Join = true
 joins JoinRaw = true
 
 abbrev pub raws : SheetWanted → Bool
-raws Wrong = false
 raws Print = false
 raws Raw = true
 raws Join = false
@@ -33,7 +32,7 @@ raws JoinRaw = true
 -- ---- a name: what is there cannot be read, or a pump came to its end with it
 pub data LogTaken (m : Month) (added : Added) : Type 0 where
   unread : added ≡ NotRead → LogTaken m added
-  pumped : (ended : Ended) → PumpedAs ended.how (printed_by Sheet to_sheet) Sheet to_sheet ended → added ≡ log_added m ended → LogTaken m added
+  pumped : (ended : Ended Sheeting) → PumpedAs ended.how (printed_from sheeter start) sheeter start ended → added ≡ log_added m ended → LogTaken m added
 
 -- or it gave these bytes
 pub data SheetTaken (m : Month) (added : Added) : Type 0 where

@@ -4,8 +4,7 @@
 
 mod handed;
 
-ghost use Rattle.std.specs.Prelude.{true, false, ◌≡◌, ◌-◌, ◌≤◌, length};
-ghost use Rattle.arguments.specs.declared.SheetWanted.TheVariants.{Wrong};
+ghost use Rattle.std.specs.Prelude.{None, true, false, ◌≡◌, ◌-◌, ◌≤◌, length};
 ghost use Rattle.sheet.specs.Program.{joins, raws, LogTaken, SheetTaken, Taken, added_status, month_after, behind, NameTaken, Gathered, no_sheet, status_behind, PrintedOf, PrintedAs};
 
 use arguments::{SheetWanted, sheet_of};
@@ -37,26 +36,14 @@ struct Gathering {
 fn joins_sheets(wanted: SheetWanted) -> bool
     ensures { result ≡ joins wanted }
 {
-    match wanted {
-        SheetWanted::Wrong => false,
-        SheetWanted::Print => false,
-        SheetWanted::Raw => false,
-        SheetWanted::Join => true,
-        SheetWanted::JoinRaw => true,
-    }
+    matches!(wanted, SheetWanted::Join | SheetWanted::JoinRaw)
 }
 
 // Whether the sheet is written as bytes.
 fn writes_bytes(wanted: SheetWanted) -> bool
     ensures { result ≡ raws wanted }
 {
-    match wanted {
-        SheetWanted::Wrong => false,
-        SheetWanted::Print => false,
-        SheetWanted::Raw => true,
-        SheetWanted::Join => false,
-        SheetWanted::JoinRaw => true,
-    }
+    matches!(wanted, SheetWanted::Raw | SheetWanted::JoinRaw)
 }
 
 // ---- a name
@@ -295,8 +282,8 @@ fn sheet(rt: &HostRuntime, count: usize, wanted: SheetWanted) -> ExitCode {
 }
 
 // Where nothing was asked for in so many words.
-fn tell_misused(rt: &HostRuntime, wanted: SheetWanted)
-    requires { wanted ≡ Wrong }
+fn tell_misused(rt: &HostRuntime, wanted: Option<SheetWanted>)
+    requires { wanted ≡ None }
 {
     ending::tell_use(
         rt,
@@ -313,13 +300,10 @@ fn main(rt: HostRuntime) -> ExitCode {
     // of a word that does not fit into its buffer the count is 0, and an empty word asks for nothing
     let wanted = sheet_of(count, &first[..n]);
     match wanted {
-        SheetWanted::Wrong => {
+        None => {
             tell_misused(&rt, wanted);
             ExitCode::SUCCESS
         }
-        SheetWanted::Print => sheet(&rt, count, wanted),
-        SheetWanted::Raw => sheet(&rt, count, wanted),
-        SheetWanted::Join => sheet(&rt, count, wanted),
-        SheetWanted::JoinRaw => sheet(&rt, count, wanted),
+        Some(asked) => sheet(&rt, count, asked),
     }
 }

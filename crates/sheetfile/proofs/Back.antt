@@ -13,6 +13,7 @@ use lib.Seq.{take-add, take_all, drop-drop}
 use mir.Syntax.{w16, w64}
 use mir.Val.{Fits, SFits, to_z}
 use mir.Facts.{of_z-to_z, sfits_to_z}
+use Rattle.std.specs.Prelude.{None}
 use Rattle.laws.specs.Choice.{pick, both}
 use Rattle.laws.proofs.Finite.{left, right}
 use Rattle.laws.proofs.Words.{signed-fits, signed_high, signed_low}
@@ -21,7 +22,7 @@ use Rattle.benchlog.specs.Reader.{signed_at}
 use Rattle.benchlog.specs.Whole.{Bytes}
 use Rattle.benchlog.proofs.Signed.{parted4, fits4}
 use Rattle.benchlog.proofs.Bodies.{bytes_drop, listed}
-use Rattle.sheets.specs.declared.Extremes.TheVariants.{NoSample, Of}
+use Rattle.sheets.specs.Sheets.{from_to}
 use Rattle.sheetfile.specs.Format.{mark, version, big_endian8, signed8, flag_of, smallest_of, largest_of, tally_bytes, axes_bytes, ranges_bytes, head_bytes, four_numbers, counts_bytes, encode, size}
 use Rattle.sheetfile.specs.Reader.{four_in, eight_in, extremes_of, tally_in, axes_in, ranges_in, month_in, tally_stands, axes_stand, ranges_stand, head_stands}
 use Rattle.sheetfile.specs.Whole.{ExtremesFit, TallyFits, AxesFit, RangesFit, NumbersFit}
@@ -68,7 +69,7 @@ module _ (s : List ℕ) (h : Bytes s) where
       rw (high, low) ((λ i. p i ++ q i) ∙ two-pieces 4 s)
 
 -- ---- a tally
-fit_of : (t : Bool) {a b : ℤ} → SFits w16 a → SFits w16 b → ExtremesFit (pick t NoSample (Of a b))
+fit_of : (t : Bool) {a b : ℤ} → SFits w16 a → SFits w16 b → ExtremesFit (pick t None (from_to a b))
 fit_of true p q = tt
 fit_of false p q = (p, q)
 
@@ -94,7 +95,7 @@ module _ (s : List ℕ) (h : Bytes s) where
     extremes-back = go (eqb (get_or s 0 0) 0) refl
       where
         go : (t : Bool) → eqb (get_or s 0 0) 0 ≡ t → pick t (eqb (four_in (drop 1 s)) 0) (eqb (get_or s 0 0) 1) ≡ true
-            → (let e = pick t NoSample (Of (signed_at s 1) (signed_at s 3)) in flag_of e ∷ signed (smallest_of e) ++ signed (largest_of e)) ≡ take 5 s
+            → (let e = pick t None (from_to (signed_at s 1) (signed_at s 3)) in flag_of e ∷ signed (smallest_of e) ++ signed (largest_of e)) ≡ take 5 s
         go true f e =
             let none = eqb-true (get_or s 0 0) 0 f in
             let q : big_endian4 0 ≡ take 4 (drop 1 s) = rw (eqb-true (four_in (drop 1 s)) 0 e) at (four-back (drop 1 s) (bytes_drop 1 s h) (simp length-drop (omega arith))) in

@@ -4,14 +4,13 @@ use Prim.Native.Nat.{ℕ}
 use mathlib.Core.List.{List, [], ◌∷◌, ◌++◌}
 use mathlib.Core.Path.{◌≡◌, refl}
 use lib.IntN.{ℤ, pos, negsuc}
-use Rattle.sheets.specs.Sheets.{no_tally}
-use Rattle.sheets.specs.declared.Extremes.TheVariants.{Of}
+use Rattle.sheets.specs.Sheets.{no_tally, from_to}
 use Rattle.sheets.specs.declared.Month.{Month}
 use Rattle.sheets.specs.declared.Tally.{Tally}
 use Rattle.sheetfile.specs.Format.{big_endian8, tally_bytes, axes_bytes, ranges_bytes, head_bytes, four_numbers, counts_bytes, encode}
 
 abbrev tally : ℤ → ℤ → ℤ → Tally
-tally smallest largest sum = record { extremes = Of smallest largest; sum = sum }
+tally smallest largest sum = record { extremes = from_to smallest largest; sum = sum }
 
 -- x at 2 g, y at 4 g, z at 8 g, x at 16 g
 abbrev one : Month

@@ -9,15 +9,16 @@ use lib.Dec.{leb}
 use lib.IntN.{ℤ, pos, negsuc, ◌+ℤ◌}
 use lib.Signed.{lt_z, le_z}
 use Rattle.laws.specs.Choice.{pick, both}
-use Rattle.laws.proofs.Finite.{left, right, picked}
-use Rattle.sheets.specs.Sheets.{smaller, larger, extremes_over, tally_over, axes_over, ranges_over, sheet_over, month_over, month_fits, empty_month, month_joined}
+use Rattle.laws.proofs.Finite.{left, right}
+use Rattle.std.specs.Prelude.{Option, Some, None, Result, Ok, Err}
+use Rattle.sheets.specs.Sheets.{smaller, larger, extremes_over, tally_over, axes_over, ranges_over, sheet_over, month_over, month_fits, empty_month, month_joined, kept}
 use Rattle.sheets.specs.declared.Extremes.{Extremes}
-use Rattle.sheets.specs.declared.Extremes.TheVariants.{NoSample, Of}
 use Rattle.sheets.specs.declared.Tally.{Tally}
 use Rattle.sheets.specs.declared.ByAxis.{ByAxis}
 use Rattle.sheets.specs.declared.ByRange.{ByRange}
 use Rattle.sheets.specs.declared.Sheet.{Sheet}
 use Rattle.sheets.specs.declared.Month.{Month}
+use Rattle.sheets.specs.declared.TooLarge.{TooLarge}
 use Rattle.sheetfile.specs.Whole.{is_zero, goes_with, tally_is_whole, axes_are_whole, ranges_are_whole, counts_add_up, is_whole}
 use Rattle.sheetfile.specs.Joins.{Joins}
 
@@ -60,11 +61,11 @@ is-zero : (z : ℤ) → is_zero z ≡ true → z ≡ pos 0
 is-zero (pos n) e = let h = eqb-true n 0 e in rw h
 is-zero (negsuc n) e = no e
 
-over-goes : (e e' : Extremes) (a b : ℤ) → goes_with e a ≡ true → goes_with e' b ≡ true → goes_with (extremes_over e e') (a +ℤ b) ≡ true
-over-goes NoSample NoSample a b p q = rw (is-zero a p, is-zero b q)
-over-goes NoSample (Of s' l') a b p q = q
-over-goes (Of s l) NoSample a b p q = p
-over-goes (Of s l) (Of s' l') a b p q = extremes-ordered s l s' l' p q
+over-goes : (e e' : Option Extremes) (a b : ℤ) → goes_with e a ≡ true → goes_with e' b ≡ true → goes_with (extremes_over e e') (a +ℤ b) ≡ true
+over-goes None None a b p q = rw (is-zero a p, is-zero b q)
+over-goes None (Some e') a b p q = q
+over-goes (Some e) None a b p q = p
+over-goes (Some e) (Some e') a b p q = extremes-ordered e.smallest e.largest e'.smallest e'.largest p q
 
 tally-whole : (a b : Tally) → tally_is_whole a ≡ true → tally_is_whole b ≡ true → tally_is_whole (tally_over a b) ≡ true
 unfolding tally_is_whole
@@ -104,9 +105,13 @@ unfolding is_whole
 over-whole a b =
     each-of-two _ _ _ _ (counts-add a.sheet b.sheet) (each-of-two _ _ _ _ (refused-most a b) (ranges-whole a.sheet.ranges b.sheet.ranges))
 
-joined-whole : (a b : Month) → is_whole a ≡ true → is_whole b ≡ true → is_whole (month_joined a b).month ≡ true
+joined-whole : (a b : Month) → is_whole a ≡ true → is_whole b ≡ true → is_whole (kept a (month_joined a b)) ≡ true
 unfolding month_joined
-joined-whole a b p q = picked (λ (m : Month). is_whole m ≡ true) (month_fits (month_over a b)) (over-whole a b p q) p
+joined-whole a b p q = go (month_fits (month_over a b))
+  where
+    go : (t : Bool) → is_whole (kept a (pick {A = Result Month TooLarge} t (Ok (month_over a b)) (Err (record {})))) ≡ true
+    go true = over-whole a b p q
+    go false = p
 
 empty-whole : is_whole empty_month ≡ true
 unfolding tally_is_whole axes_are_whole ranges_are_whole is_whole

@@ -12,10 +12,10 @@ use lib.ListN.{drop, length}
 use mir.Syntax.{w64}
 use mir.Val.{SFits}
 use mir.Facts.{to_z-of_z}
+use Rattle.std.specs.Prelude.{Option, Some, None}
 use Rattle.laws.proofs.Words.{joined}
 use Rattle.benchlog.proofs.Signed.{joined4}
 use Rattle.sheets.specs.declared.Extremes.{Extremes}
-use Rattle.sheets.specs.declared.Extremes.TheVariants.{NoSample, Of}
 use Rattle.sheets.specs.declared.Tally.{Tally}
 use Rattle.sheets.specs.declared.ByAxis.{ByAxis}
 use Rattle.sheets.specs.declared.ByRange.{ByRange}
@@ -32,18 +32,18 @@ eight-read n rest =
     rw (joined4 (n / 4294967296), joined4 (n % 4294967296)) whole
 
 -- ---- a tally, whatever follows it
-tally-read-of : (e : Extremes) (sum : ℤ) (rest : List ℕ) → ExtremesFit e → SFits w64 sum → tally_in (tally_bytes (record { extremes = e; sum = sum }) ++ rest) ≡ record { extremes = e; sum = sum }
+tally-read-of : (e : Option Extremes) (sum : ℤ) (rest : List ℕ) → ExtremesFit e → SFits w64 sum → tally_in (tally_bytes (record { extremes = e; sum = sum }) ++ rest) ≡ record { extremes = e; sum = sum }
 unfolding tally_bytes tally_in
-tally-read-of NoSample sum rest e f = rw (eight-read, to_z-of_z f)
-tally-read-of (Of smallest largest) sum rest e f = rw (joined e.0, joined e.1, eight-read, to_z-of_z f)
+tally-read-of None sum rest e f = rw (eight-read, to_z-of_z f)
+tally-read-of (Some some) sum rest e f = rw (joined e.0, joined e.1, eight-read, to_z-of_z f)
 
 tally-read : (t : Tally) (rest : List ℕ) → TallyFits t → tally_in (tally_bytes t ++ rest) ≡ t
 tally-read t rest f = tally-read-of t.extremes t.sum rest f.extremes f.sum
 
-tally-stands-of : (e : Extremes) (sum : ℤ) (rest : List ℕ) → tally_stands (tally_bytes (record { extremes = e; sum = sum }) ++ rest) ≡ true
+tally-stands-of : (e : Option Extremes) (sum : ℤ) (rest : List ℕ) → tally_stands (tally_bytes (record { extremes = e; sum = sum }) ++ rest) ≡ true
 unfolding tally_bytes four_in tally_stands
-tally-stands-of NoSample sum rest = refl
-tally-stands-of (Of smallest largest) sum rest = refl
+tally-stands-of None sum rest = refl
+tally-stands-of (Some some) sum rest = refl
 
 tally-stands : (t : Tally) (rest : List ℕ) → tally_stands (tally_bytes t ++ rest) ≡ true
 tally-stands t rest = tally-stands-of t.extremes t.sum rest

@@ -1,10 +1,9 @@
 -- Q-8: "`--raw` writes a sheet as bytes (a mark, a version, fixed big-endian fields)": the bytes of a month, always 225.
-use Rattle.std.specs.Prelude.{ℕ, ◌/◌, ◌%◌, List, [], ◌∷◌, ◌++◌, ℤ, pos}
+use Rattle.std.specs.Prelude.{ℕ, ◌/◌, ◌%◌, List, [], ◌∷◌, ◌++◌, Option, Some, None, ℤ, pos}
 use Rattle.std.specs.Int.{w64}
 use Rattle.std.proofs.Common.{of_z}
 use Rattle.benchlog.specs.Format.{big_endian4, signed}
 use Rattle.sheets.specs.declared.Extremes.{Extremes}
-use Rattle.sheets.specs.declared.Extremes.TheVariants.{NoSample, Of}
 use Rattle.sheets.specs.declared.Tally.{Tally}
 use Rattle.sheets.specs.declared.ByAxis.{ByAxis}
 use Rattle.sheets.specs.declared.ByRange.{ByRange}
@@ -45,18 +44,18 @@ abbrev pub signed8 : ℤ → List ℕ
 signed8 z = big_endian8 (of_z w64 z)
 
 -- ---- a tally: 1 where a sample came and 0 where none did, the smallest, the largest, the sum
-abbrev pub flag_of : Extremes → ℕ
-flag_of NoSample = 0
-flag_of (Of smallest largest) = 1
+abbrev pub flag_of : Option Extremes → ℕ
+flag_of None = 0
+flag_of (Some e) = 1
 
 -- 0 where no sample came
-abbrev pub smallest_of : Extremes → ℤ
-smallest_of NoSample = pos 0
-smallest_of (Of smallest largest) = smallest
+abbrev pub smallest_of : Option Extremes → ℤ
+smallest_of None = pos 0
+smallest_of (Some e) = e.smallest
 
-abbrev pub largest_of : Extremes → ℤ
-largest_of NoSample = pos 0
-largest_of (Of smallest largest) = largest
+abbrev pub largest_of : Option Extremes → ℤ
+largest_of None = pos 0
+largest_of (Some e) = e.largest
 
 unfoldable pub tally_bytes : Tally → List ℕ
 tally_bytes t = flag_of t.extremes ∷ signed (smallest_of t.extremes) ++ signed (largest_of t.extremes) ++ signed8 t.sum

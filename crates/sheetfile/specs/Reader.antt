@@ -1,11 +1,11 @@
 -- Q-8: "what is no sheet is refused". Each part is read at the head of the bytes that are left.
-use Rattle.std.specs.Prelude.{ℕ, ◌+◌, ◌*◌, Bool, List, eqb, ℤ, length, get_or, drop, Result, Ok, Err}
+use Rattle.std.specs.Prelude.{ℕ, ◌+◌, ◌*◌, Bool, List, Option, None, Result, Ok, Err, eqb, ℤ, length, get_or, drop}
 use Rattle.std.specs.Int.{w64}
 use Rattle.std.proofs.Common.{to_z}
 use Rattle.laws.specs.Choice.{pick, both}
 use Rattle.benchlog.specs.Reader.{four_at, signed_at}
+use Rattle.sheets.specs.Sheets.{from_to}
 use Rattle.sheets.specs.declared.Extremes.{Extremes}
-use Rattle.sheets.specs.declared.Extremes.TheVariants.{NoSample, Of}
 use Rattle.sheets.specs.declared.Tally.{Tally}
 use Rattle.sheets.specs.declared.ByAxis.{ByAxis}
 use Rattle.sheets.specs.declared.ByRange.{ByRange}
@@ -22,8 +22,8 @@ four_in s = four_at s 0
 unfoldable pub eight_in : List ℕ → ℕ
 eight_in s = four_in s * 4294967296 + four_in (drop 4 s)
 
-abbrev pub extremes_of : ℕ → ℤ → ℤ → Extremes
-extremes_of flag smallest largest = pick (eqb flag 0) NoSample (Of smallest largest)
+abbrev pub extremes_of : ℕ → ℤ → ℤ → Option Extremes
+extremes_of flag smallest largest = pick (eqb flag 0) None (from_to smallest largest)
 
 unfoldable pub tally_in : List ℕ → Tally
 tally_in s = record { extremes = extremes_of (get_or s 0 0) (signed_at s 1) (signed_at s 3); sum = to_z w64 (eight_in (drop 5 s)) }

@@ -1,11 +1,10 @@
 -- Months that are sheets of some logs, and months whose numbers fit.
-use Rattle.std.specs.Prelude.{ℕ, ◌+◌, ◌^◌, ◌<◌, Bool, false, eqb, leb, ℤ, pos, negsuc}
+use Rattle.std.specs.Prelude.{ℕ, ◌+◌, ◌^◌, ◌<◌, Bool, false, eqb, leb, Option, Some, None, ℤ, pos, negsuc}
 use Rattle.std.specs.Int.Signed.{le_z}
 use Rattle.std.specs.Int.{w16, w64}
 use Rattle.std.proofs.Common.{SFits}
 use Rattle.laws.specs.Choice.{both}
 use Rattle.sheets.specs.declared.Extremes.{Extremes}
-use Rattle.sheets.specs.declared.Extremes.TheVariants.{NoSample, Of}
 use Rattle.sheets.specs.declared.Tally.{Tally}
 use Rattle.sheets.specs.declared.ByAxis.{ByAxis}
 use Rattle.sheets.specs.declared.ByRange.{ByRange}
@@ -18,9 +17,9 @@ is_zero (pos n) = eqb n 0
 is_zero (negsuc n) = false
 
 -- the sum of no samples is 0; of some, the smallest is not above the largest
-abbrev pub goes_with : Extremes → ℤ → Bool
-goes_with NoSample sum = is_zero sum
-goes_with (Of smallest largest) sum = le_z smallest largest
+abbrev pub goes_with : Option Extremes → ℤ → Bool
+goes_with None sum = is_zero sum
+goes_with (Some e) sum = le_z e.smallest e.largest
 
 unfoldable pub tally_is_whole : Tally → Bool
 tally_is_whole t = goes_with t.extremes t.sum
@@ -44,9 +43,9 @@ is_whole m = both (counts_add_up m.sheet) (both (leb m.refused m.logs) (ranges_a
 
 -- ---- months whose counts have 64 bits, whose extremes 16 and whose sums 64. Every month that a program holds is such a one: the writer's
 -- `put_month` promises it of whatever month it is handed, by the types of its fields alone
-abbrev pub ExtremesFit : Extremes → Type 0
-ExtremesFit NoSample = Unit {0}
-ExtremesFit (Of smallest largest) = SFits w16 smallest × SFits w16 largest
+abbrev pub ExtremesFit : Option Extremes → Type 0
+ExtremesFit None = Unit {0}
+ExtremesFit (Some e) = SFits w16 e.smallest × SFits w16 e.largest
 
 pub record TallyFits (t : Tally) : Type 0 where
   pub extremes : ExtremesFit t.extremes

@@ -5,8 +5,7 @@ use mathlib.Core.Path.{◌≡◌, refl}
 use lib.IntN.{ℤ, pos, negsuc}
 use Rattle.codes.specs.declared.Range.TheVariants.{G2}
 use Rattle.text.specs.Text.{ascii, decimal, last_digits}
-use Rattle.sheets.specs.Sheets.{no_tallies, empty_month}
-use Rattle.sheets.specs.declared.Extremes.TheVariants.{Of}
+use Rattle.sheets.specs.Sheets.{no_tallies, from_to, empty_month}
 use Rattle.sheets.specs.declared.Month.{Month}
 use Rattle.sheets.specs.declared.Tally.{Tally}
 use Rattle.wording.specs.Wording.{signed_column}
@@ -25,7 +24,7 @@ unfolding counts_text tally_line axes_text ranges_text month_text decimal last_d
 empty = refl
 
 abbrev pub tally : ℤ → ℤ → ℤ → Tally
-tally smallest largest sum = record { extremes = Of smallest largest; sum = sum }
+tally smallest largest sum = record { extremes = from_to smallest largest; sum = sum }
 
 -- one sample at 16 g, x at the least that can be stored and z at the most
 abbrev pub one_sample : Month

@@ -7,6 +7,7 @@ use native.Mathlib.Omega.{arith}
 use lib.Dec.{eqb}
 use lib.IntN.{ℤ, pos, nat_abs}
 use lib.ListN.{length, length-append}
+use Rattle.std.specs.Prelude.{Option, Some, None}
 use lib.Signed.{lt_z}
 use Rattle.laws.specs.Choice.{pick}
 use Rattle.codes.specs.declared.Range.{Range}
@@ -16,7 +17,6 @@ use Rattle.text.proofs.Texts.{length-decimal}
 use Rattle.sheets.specs.declared.ByAxis.{ByAxis}
 use Rattle.sheets.specs.declared.ByRange.{ByRange}
 use Rattle.sheets.specs.declared.Extremes.{Extremes}
-use Rattle.sheets.specs.declared.Extremes.TheVariants.{NoSample, Of}
 use Rattle.sheets.specs.declared.Month.{Month}
 use Rattle.sheets.specs.declared.Sheet.{Sheet}
 use Rattle.sheets.specs.declared.Tally.{Tally}
@@ -76,11 +76,11 @@ length_both : (range : Range) (smallest largest : ℤ) → length (in_g_text ran
 unfolding in_g_text
 length_both range smallest largest = simp length-append (omega (arith, length-in-g smallest range, length-in-g largest range))
 
-length-extremes : (range : Range) (e : Extremes) (sum : ℤ) → length (extremes_text range e sum) ≤ 132
+length-extremes : (range : Range) (e : Option Extremes) (sum : ℤ) → length (extremes_text range e sum) ≤ 132
 unfolding numbers_text
-length-extremes range NoSample sum = omega arith
-length-extremes range (Of smallest largest) sum =
-    simp length-append (omega (arith, length-column smallest, length-column largest, length-column sum, length_both range smallest largest))
+length-extremes range None sum = omega arith
+length-extremes range (Some e) sum =
+    simp length-append (omega (arith, length-column e.smallest, length-column e.largest, length-column sum, length_both range e.smallest e.largest))
 
 length-tally : (name axis : List ℕ) (range : Range) (t : Tally) → length (tally_line name axis range t) ≤ length name + (length axis + 132)
 unfolding tally_line

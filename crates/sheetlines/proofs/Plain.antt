@@ -9,6 +9,7 @@ use borrow.Author.Tests.{le-ltb, ne_eqb}
 use lib.Dec.{eqb}
 use lib.IntN.{ℤ, pos, negsuc, nat_abs}
 use lib.ListN.{length}
+use Rattle.std.specs.Prelude.{Option, Some, None}
 use lib.Signed.{lt_z}
 use Rattle.laws.specs.Choice.{pick}
 use Rattle.codes.specs.declared.Range.{Range}
@@ -17,7 +18,6 @@ use Rattle.text.specs.Text.{ascii, newline, digit, most_digits, decimal}
 use Rattle.text.proofs.Texts.{by_digits}
 use Rattle.sheets.specs.declared.ByAxis.{ByAxis}
 use Rattle.sheets.specs.declared.Extremes.{Extremes}
-use Rattle.sheets.specs.declared.Extremes.TheVariants.{NoSample, Of}
 use Rattle.sheets.specs.declared.Month.{Month}
 use Rattle.sheets.specs.declared.Tally.{Tally}
 use Rattle.wording.specs.Wording.{signed_column}
@@ -94,10 +94,10 @@ words-free [] f = nothing
 words-free (w ∷ []) f = f.0
 words-free (w ∷ v ∷ ws) f = two f.0 (two {a = ascii " "} (record { is = refl }) (words-free (v ∷ ws) f.1))
 
-extremes-free : (range : Range) (e : Extremes) (sum : ℤ) → AllFree (extremes_words range e sum)
-extremes-free range NoSample sum = (record { is = refl }, tt)
-extremes-free range (Of smallest largest) sum =
-    (signed-free smallest, (signed-free largest, (signed-free sum, (in-g-free smallest range, (in-g-free largest range, tt)))))
+extremes-free : (range : Range) (e : Option Extremes) (sum : ℤ) → AllFree (extremes_words range e sum)
+extremes-free range None sum = (record { is = refl }, tt)
+extremes-free range (Some e) sum =
+    (signed-free e.smallest, (signed-free e.largest, (signed-free sum, (in-g-free e.smallest range, (in-g-free e.largest range, tt)))))
 
 -- ---- a reader cuts the lines apart
 line_first : (l rest : List ℕ) → free l ≡ true → lines_of (l ++ (newline ∷ rest)) ≡ l ∷ lines_of rest
@@ -143,11 +143,11 @@ unfolding signed_column
 signed-spelt (pos n) = rw (le-ltb n 0 (omega arith))
 signed-spelt (negsuc n) = refl
 
-spelt : (name axis : List ℕ) (range : Range) (e : Extremes) (sum : ℤ)
+spelt : (name axis : List ℕ) (range : Range) (e : Option Extremes) (sum : ℤ)
     → name ++ ((ascii " " ++ (axis ++ ascii " ")) ++ extremes_text range e sum) ≡ words (name ∷ axis ∷ extremes_words range e sum) ++ ascii "\n"
 unfolding numbers_text in_g_text
-spelt name axis range NoSample sum = simp append_assoc
-spelt name axis range (Of smallest largest) sum = simp (signed-spelt smallest, signed-spelt largest, signed-spelt sum, append_assoc)
+spelt name axis range None sum = simp append_assoc
+spelt name axis range (Some e) sum = simp (signed-spelt e.smallest, signed-spelt e.largest, signed-spelt sum, append_assoc)
 
 module _ (name : List ℕ) (f : free name ≡ true) (range : Range) where
   tally : (axis : List ℕ) → free axis ≡ true → (t : Tally) → Said (tally_line name (ascii " " ++ (axis ++ ascii " ")) range t) (tally_words name axis range t ∷ [])

@@ -11,14 +11,13 @@
 --     2g z ..
 --     4g, 8g and 16g likewise
 --     logs N refused M
-use Rattle.std.specs.Prelude.{ℕ, List, ◌++◌, ℤ}
+use Rattle.std.specs.Prelude.{ℕ, List, ◌++◌, Option, Some, None, ℤ}
 use Rattle.codes.specs.declared.Range.{Range}
 use Rattle.codes.specs.declared.Range.TheVariants.{G2, G4, G8, G16}
 use Rattle.text.specs.Text.{ascii}
 use Rattle.sheets.specs.declared.ByAxis.{ByAxis}
 use Rattle.sheets.specs.declared.ByRange.{ByRange}
 use Rattle.sheets.specs.declared.Extremes.{Extremes}
-use Rattle.sheets.specs.declared.Extremes.TheVariants.{NoSample, Of}
 use Rattle.sheets.specs.declared.Month.{Month}
 use Rattle.sheets.specs.declared.Sheet.{Sheet}
 use Rattle.sheets.specs.declared.Tally.{Tally}
@@ -49,9 +48,9 @@ unfoldable pub numbers_text : Range → ℤ → ℤ → ℤ → List ℕ
 numbers_text range smallest largest sum = signed_column smallest ++ (signed_column largest ++ (signed_column sum ++ in_g_text range smallest largest))
 
 -- "none where no sample came"
-abbrev pub extremes_text : Range → Extremes → ℤ → List ℕ
-extremes_text range NoSample sum = ascii "none\n"
-extremes_text range (Of smallest largest) sum = numbers_text range smallest largest sum
+abbrev pub extremes_text : Range → Option Extremes → ℤ → List ℕ
+extremes_text range None sum = ascii "none\n"
+extremes_text range (Some e) sum = numbers_text range e.smallest e.largest sum
 
 -- behind the range's name, and the axis between two spaces
 unfoldable pub tally_line : List ℕ → List ℕ → Range → Tally → List ℕ

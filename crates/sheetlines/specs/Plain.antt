@@ -1,11 +1,10 @@
 -- Q-8: the text of a month as its reader finds it, line by line and word by word, for every number that stands in it. No contract cites these.
-use Rattle.std.specs.Prelude.{ℕ, suc, ◌≤◌, List, [], ◌∷◌, ◌++◌, ◌≡◌, eqb, ℤ, pos, negsuc, length}
+use Rattle.std.specs.Prelude.{ℕ, suc, ◌≤◌, List, [], ◌∷◌, ◌++◌, ◌≡◌, eqb, Option, Some, None, ℤ, pos, negsuc, length}
 use Rattle.laws.specs.Choice.{pick}
 use Rattle.codes.specs.declared.Range.{Range}
 use Rattle.codes.specs.declared.Range.TheVariants.{G2, G4, G8, G16}
 use Rattle.text.specs.Text.{ascii, newline, decimal}
 use Rattle.sheets.specs.declared.Extremes.{Extremes}
-use Rattle.sheets.specs.declared.Extremes.TheVariants.{NoSample, Of}
 use Rattle.sheets.specs.declared.Month.{Month}
 use Rattle.sheets.specs.declared.Tally.{Tally}
 use Rattle.measure.specs.Measure.{g_text}
@@ -44,9 +43,9 @@ abbrev pub count_words : List ℕ → ℕ → List ℕ
 count_words name n = words (name ∷ decimal n ∷ [])
 
 -- "SMALLEST LARGEST SUM SMALLEST_IN_G LARGEST_IN_G", "none where no sample came"
-abbrev pub extremes_words : Range → Extremes → ℤ → List (List ℕ)
-extremes_words range NoSample sum = ascii "none" ∷ []
-extremes_words range (Of smallest largest) sum = signed smallest ∷ signed largest ∷ signed sum ∷ g_text smallest range ∷ g_text largest range ∷ []
+abbrev pub extremes_words : Range → Option Extremes → ℤ → List (List ℕ)
+extremes_words range None sum = ascii "none" ∷ []
+extremes_words range (Some e) sum = signed e.smallest ∷ signed e.largest ∷ signed sum ∷ g_text e.smallest range ∷ g_text e.largest range ∷ []
 
 abbrev pub tally_words : List ℕ → List ℕ → Range → Tally → List ℕ
 tally_words name axis range t = words (name ∷ axis ∷ extremes_words range t.extremes t.sum)

@@ -139,14 +139,20 @@ fn put_numbers(
     put_in_g(out, to, range, smallest, largest)
 }
 
-fn put_extremes(out: &mut [u8], at: usize, range: Range, extremes: Extremes, sum: i64) -> usize
+fn put_extremes(
+    out: &mut [u8],
+    at: usize,
+    range: Range,
+    extremes: Option<Extremes>,
+    sum: i64,
+) -> usize
     requires { at + 132 ≤ length out.old }
     ensures { Spelt 132 out.old at (extremes_text range extremes sum) out.new result }
 {
-    let Extremes::Of(smallest, largest) = extremes else {
-        return word(out, at, b"none\n");
-    };
-    put_numbers(out, at, range, smallest, largest, sum)
+    match extremes {
+        None => word(out, at, b"none\n"),
+        Some(e) => put_numbers(out, at, range, e.smallest, e.largest, sum),
+    }
 }
 
 // The line of one axis in one range.

@@ -19,7 +19,7 @@ use Rattle.fifo.specs.Flat.{Flat, packed}
 use Rattle.fifo.specs.Ledger.{held_of}
 use Rattle.fifo.specs.Store.{count_in}
 use Rattle.fifo.specs.declared.Setting.{Setting}
-use Rattle.registers.specs.Answers.{accepted}
+use Rattle.registers.specs.Answers.{Answer, accepted}
 use Rattle.registers.specs.Deeds.{judgement}
 use Rattle.paper.specs.Computed.{the_paper}
 use Rattle.paper.specs.Stored.{byte_by, is_accepted}
@@ -29,7 +29,6 @@ use Rattle.paper.proofs.Stored.{stored_is, accepted-is}
 use Rattle.paper.proofs.Samples.{sample-is}
 use Rattle.paper.proofs.Readouts.{readout-is}
 use Rattle.registers.specs.Refused.{read_answer, write_answer}
-use Rattle.registers.specs.declared.Answer.{Answer}
 use Rattle.device.specs.Clock.{clock_of}
 use Rattle.device.specs.Read.{read_of}
 use Rattle.device.specs.Sample.{sample_of}
