@@ -10,7 +10,7 @@ ghost use Rattle.device.specs.Parts.{whole};
 ghost use Rattle.registers.specs.Answers.{number};
 ghost use Rattle.twin.specs.Entry.{harness_type, device_in, asked, step_of, stepped_whole, lent_at, pins_code, level_code};
 
-use benchlog::{CLOCK, CYCLE, Found, READ, SAMPLE, WRITE, found_number_of};
+use benchlog::{CLOCK, CYCLE, READ, Refusal, SAMPLE, WRITE};
 use device::Device;
 use device::parts::{Core, CoreAnswered};
 use fifo::ROOM;
@@ -71,7 +71,7 @@ pub fn step(
         CYCLE => numbered(core.start_cycle()),
         CLOCK => numbered(core.clock(microseconds)),
         _ => Stepped {
-            number: found_number_of(Found::WrongRecord),
+            number: u8::from(Refusal::WrongRecord),
             core,
         },
     }
