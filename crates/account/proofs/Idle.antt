@@ -4,7 +4,7 @@ use Prim.Native.Nat.{ℕ}
 use mathlib.Core.Path.{◌≡◌, refl}
 use Rattle.codes.specs.declared.Mode.{Mode}
 use Rattle.codes.specs.declared.Range.{Range}
-use Rattle.registers.specs.declared.Answer.{Answer}
+use Rattle.registers.specs.Answers.{Answer}
 use Rattle.events.specs.Event.{cycle, clock}
 use Rattle.counts.specs.declared.Account.{Account}
 use Rattle.account.specs.Account.{counts_after, account_after}

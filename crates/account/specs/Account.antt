@@ -1,18 +1,16 @@
 -- The account of a device's events, one event at a time: by the event, its answer, and the range, the mode and the frames held behind it.
-use Rattle.std.specs.Prelude.{ℕ, eqb}
+use Rattle.std.specs.Prelude.{ℕ, eqb, Option, None, Some}
 use Rattle.laws.specs.Choice.{pick, both}
 use Rattle.codes.specs.Addresses.{range_at, frames_at, control_at}
 use Rattle.codes.specs.declared.Mode.{Mode}
 use Rattle.codes.specs.declared.Range.{Range}
-use Rattle.registers.specs.Answers.{accepted}
+use Rattle.registers.specs.Answers.{Answer, accepted}
 use Rattle.registers.specs.Deeds.{is_reset}
-use Rattle.registers.specs.declared.Answer.{Answer}
 use Rattle.events.specs.Event.{Event, power_up, write, read, sample, cycle, clock}
 use Rattle.counts.specs.Counts.{sum, less, left, with_readouts, arrived, no_doubts, account_moved}
 use Rattle.counts.specs.declared.Account.{Account}
 use Rattle.counts.specs.declared.Counts.{Counts}
 use Rattle.counts.specs.declared.Doubt.{Doubt}
-use Rattle.counts.specs.declared.Doubt.TheVariants.{No, By}
 use Rattle.counts.specs.declared.Doubts.{Doubts}
 use Rattle.counts.specs.declared.Why.{Why}
 use Rattle.counts.specs.declared.Why.TheVariants as why
@@ -38,29 +36,29 @@ counts_after c cycle a before behind = left c 0 0 (refused_by a)
 counts_after c (clock us) a before behind = left c 0 0 (refused_by a)
 
 -- ---- why a stretch ends with an event
-unfoldable pub why_of_write : ℕ → ℕ → Answer → Why
+unfoldable pub why_of_write : ℕ → ℕ → Answer → Option Why
 why_of_write address byte a =
-    pick (is_reset address byte) why.Reset
-    (pick (eqb address range_at) (pick (accepted a) why.Range why.Refused) why.Nothing)
+    pick (is_reset address byte) (Some why.Reset)
+    (pick (eqb address range_at) (Some (pick (accepted a) why.Range why.Refused)) None)
 
-unfoldable pub why_of_read : ℕ → Answer → Why
-why_of_read address a = pick (eqb address frames_at) (pick (accepted a) why.Readout why.Nothing) why.Nothing
+unfoldable pub why_of_read : ℕ → Answer → Option Why
+why_of_read address a = pick (eqb address frames_at) (pick (accepted a) (Some why.Readout) None) None
 
-abbrev pub why_of : Event → Answer → Why
-why_of power_up a = why.Reset
+abbrev pub why_of : Event → Answer → Option Why
+why_of power_up a = Some why.Reset
 why_of (write address byte) a = why_of_write address byte a
 why_of (read address n) a = why_of_read address a
-why_of (sample x y z temperature) a = why.Nothing
-why_of cycle a = why.Nothing
-why_of (clock us) a = why.Nothing
+why_of (sample x y z temperature) a = None
+why_of cycle a = None
+why_of (clock us) a = None
 
 -- ---- doubts
 -- of what the register at `about` sets, behind a write that is event number: "a code that the sheet doesn't define gets a numbered
 -- refusal", and what the chip did then is not in the sheet; an accepted write to the register, or a soft reset, says it again
-unfoldable pub doubt_after : Doubt → ℕ → ℕ → ℕ → Answer → ℕ → Doubt
+unfoldable pub doubt_after : Option Doubt → ℕ → ℕ → ℕ → Answer → ℕ → Option Doubt
 doubt_after d about address byte a number =
-    pick (is_reset address byte) No
-    (pick (eqb address about) (pick (accepted a) No (By byte number)) d)
+    pick (is_reset address byte) None
+    (pick (eqb address about) (pick (accepted a) None (Some (record { byte = byte; number = number }))) d)
 
 -- of the range, by 0x0F, and of the mode, by 0x3E
 abbrev pub doubts_after : Doubts → ℕ → ℕ → Answer → ℕ → Doubts

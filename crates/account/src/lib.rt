@@ -7,65 +7,65 @@ ghost use Rattle.events.specs.Event.{write, read, sample, cycle};
 ghost use Rattle.account.specs.Account.{refused_by, readouts_by, why_of_write, why_of_read, doubt_after, doubts_after, account_after};
 
 use codes::{CONTROL_AT, FRAMES_AT, Mode, RANGE_AT, RESET_AT, Range};
-use counts::{Account, Doubt, Doubts, Why, less_by, plus};
+use counts::{Account, Doubt, Doubts, Why};
 use laws::both;
 use registers::{Answer, SOFT_RESET, is_accepted};
 
 // Why a stretch ends with a write: a soft reset, or one to 0x0F.
 #[tactic(auto, unfolding(crate::specs::Account::why_of_write))]
-pub fn why_of_write(address: u8, byte: u8, answer: Answer) -> Why
+pub fn why_of_write(address: u8, byte: u8, answer: Answer) -> Option<Why>
     ensures { result ≡ why_of_write address byte answer }
 {
     if both(address as usize == RESET_AT, byte == SOFT_RESET) {
-        return Why::Reset;
+        return Some(Why::Reset);
     }
     if address as usize != RANGE_AT {
-        return Why::Nothing;
+        return None;
     }
     if is_accepted(answer) {
-        Why::Range
+        Some(Why::Range)
     } else {
-        Why::Refused
+        Some(Why::Refused)
     }
 }
 
 // Why a stretch ends with a read: a readout.
 #[tactic(auto, unfolding(crate::specs::Account::why_of_read))]
-pub fn why_of_read(address: u8, answer: Answer) -> Why
+pub fn why_of_read(address: u8, answer: Answer) -> Option<Why>
     ensures { result ≡ why_of_read address answer }
 {
     if address as usize != FRAMES_AT {
-        return Why::Nothing;
+        return None;
     }
     if is_accepted(answer) {
-        Why::Readout
+        Some(Why::Readout)
     } else {
-        Why::Nothing
+        None
     }
 }
 
 // What is doubted of what the register at about sets, behind a write, which is event number.
 #[tactic(auto, unfolding(crate::specs::Account::doubt_after))]
 fn doubt_after(
-    doubt: Doubt,
+    doubt: Option<Doubt>,
     about: usize,
     address: u8,
     byte: u8,
     answer: Answer,
     number: u64,
-) -> Doubt
+) -> Option<Doubt>
     ensures { result ≡ doubt_after doubt about address byte answer number }
 {
     if both(address as usize == RESET_AT, byte == SOFT_RESET) {
-        return Doubt::No;
+        return None;
     }
     if address as usize != about {
         return doubt;
     }
     if is_accepted(answer) {
-        Doubt::No
+        None
     } else {
-        Doubt::By(byte, number)
+        Some(Doubt { byte, number })
     }
 }
 
@@ -73,11 +73,9 @@ fn doubt_after(
 fn doubts_after(doubts: Doubts, address: u8, byte: u8, answer: Answer, number: u64) -> Doubts
     ensures { result ≡ doubts_after doubts address byte answer number }
 {
-    let range = doubts.range;
-    let mode = doubts.mode;
     Doubts {
-        range: doubt_after(range, RANGE_AT, address, byte, answer, number),
-        mode: doubt_after(mode, CONTROL_AT, address, byte, answer, number),
+        range: doubt_after(doubts.range, RANGE_AT, address, byte, answer, number),
+        mode: doubt_after(doubts.mode, CONTROL_AT, address, byte, answer, number),
     }
 }
 
@@ -113,10 +111,10 @@ pub fn after_write(
 ) -> Account
     ensures { result ≡ account_after account (write address byte) answer range mode held }
 {
-    let counts = account.counts;
-    let counts = counts.with_left(0, less_by(account.held, held), refused_by(answer));
-    let doubts = account.doubts;
-    let doubts = doubts_after(doubts, address, byte, answer, plus(account.number, 1));
+    let cleared = account.held.wrapping_sub(held);
+    let counts = account.counts.with_left(0, cleared, refused_by(answer));
+    let number = account.number.wrapping_add(1);
+    let doubts = doubts_after(account.doubts, address, byte, answer, number);
     account.moved(counts, doubts, range, mode, held)
 }
 
@@ -133,11 +131,10 @@ pub fn after_read(
 ) -> Account
     ensures { result ≡ account_after account (read address count) answer range mode held }
 {
-    let counts = account.counts;
-    let doubts = account.doubts;
-    let counts = counts.with_left(less_by(account.held, held), 0, refused_by(answer));
+    let taken = account.held.wrapping_sub(held);
+    let counts = account.counts.with_left(taken, 0, refused_by(answer));
     let counts = counts.with_readouts(readouts_by(address, answer));
-    account.moved(counts, doubts, range, mode, held)
+    account.moved(counts, account.doubts, range, mode, held)
 }
 
 // Behind a sample. Where it is accepted there is one frame more, or a sample was lost.
@@ -155,20 +152,13 @@ pub fn after_sample(
 ) -> Account
     ensures { result ≡ account_after account (sample x y z temperature) answer range mode held }
 {
-    let counts = account.counts;
-    let doubts = account.doubts;
-    let full = plus(account.held, 1);
-    if is_accepted(answer) {
-        account.moved(
-            counts.with_arrived(less_by(full, held)),
-            doubts,
-            range,
-            mode,
-            held,
-        )
+    let counts = if is_accepted(answer) {
+        let lost = account.held.wrapping_add(1).wrapping_sub(held);
+        account.counts.with_arrived(lost)
     } else {
-        account.moved(counts.with_left(0, 0, 1), doubts, range, mode, held)
-    }
+        account.counts.with_left(0, 0, 1)
+    };
+    account.moved(counts, account.doubts, range, mode, held)
 }
 
 // Behind an event at which no frame comes or goes: a cycle start, or a clock, of which account_after says the same (proofs/Idle).
@@ -176,13 +166,6 @@ pub fn after_sample(
 pub fn after_idle(account: Account, answer: Answer, range: Range, mode: Mode, held: u64) -> Account
     ensures { result ≡ account_after account cycle answer range mode held }
 {
-    let counts = account.counts;
-    let doubts = account.doubts;
-    account.moved(
-        counts.with_left(0, 0, refused_by(answer)),
-        doubts,
-        range,
-        mode,
-        held,
-    )
+    let counts = account.counts.with_left(0, 0, refused_by(answer));
+    account.moved(counts, account.doubts, range, mode, held)
 }

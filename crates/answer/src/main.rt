@@ -2,26 +2,31 @@
 // samples too; in words, with FROM TO, what came after record FROM and up to record TO; and with `all`, what came at all.
 #![tactic(auto)]
 
-ghost use Rattle.std.specs.Prelude.{◌≡◌};
-ghost use Rattle.arguments.specs.declared.Wanted.TheVariants.{Wrong};
+ghost use Rattle.std.specs.Prelude.{None, ◌≡◌};
 ghost use Rattle.answer.specs.Program.{AnsweredAs};
 
-use arguments::{Wanted, wanted_of};
+use answers::{Answering, Asked};
+use arguments::wanted_of;
 use caller::Output;
 use std::io::Write;
 use std::process::ExitCode;
 use stream::Ended;
 
 // How the answer that was asked for came to its end.
-fn tell_answered<E: Write>(rt: &HostRuntime, errors: &mut E, wanted: Wanted, ended: Ended)
+fn tell_answered<E: Write>(
+    rt: &HostRuntime,
+    errors: &mut E,
+    wanted: Option<Asked>,
+    ended: Ended<Answering>,
+)
     requires { AnsweredAs wanted ended }
 {
     ending::tell_end(rt, errors, b"answer", ended);
 }
 
 // Where nothing was asked for in so many words.
-fn tell_misused<E: Write>(rt: &HostRuntime, errors: &mut E, wanted: Wanted)
-    requires { wanted ≡ Wrong }
+fn tell_misused<E: Write>(rt: &HostRuntime, errors: &mut E, wanted: Option<Asked>)
+    requires { wanted ≡ None }
 {
     ending::tell_use(
         rt,
@@ -39,7 +44,7 @@ fn main(rt: HostRuntime) -> ExitCode {
     let mut errors = Output::new(rt.stderr());
     // of a word that does not fit into its buffer the count is 0, and an empty word asks for nothing
     let wanted = wanted_of(caller::word_count(&rt), &first[..m], &second[..n]);
-    let Wanted::Of(asked) = wanted else {
+    let Some(asked) = wanted else {
         tell_misused(&rt, &mut errors, wanted);
         return errors.status();
     };

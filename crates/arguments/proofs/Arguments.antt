@@ -14,6 +14,7 @@ use denote.Triple.Clauses.{AtExit}
 use denote.Triple.Entry.{Args, Res}
 use lib.Dec.{eqb, ltb}
 use lib.ListN.{length, get_or}
+use Rattle.std.specs.Prelude.{Option, Some, None}
 use Rattle.laws.specs.Choice.{pick, both}
 use Rattle.laws.proofs.Finite.{left, right}
 use Rattle.text.specs.Text.{ascii, value, value_on, decimal, most_digits}
@@ -22,12 +23,6 @@ use Rattle.answers.specs.declared.Asked.{Asked}
 use Rattle.answers.specs.declared.Asked.TheVariants.{Stretches, Modes, Samples, Between, Whole}
 use Rattle.arguments.specs.Words.{is_digit, are_digits, limit, number_of, same_word, by_word, between_of, wanted_of, pins_wanted_of}
 use Rattle.arguments.specs.Arguments.{place_value, Numeral, Asks, AnswerAsked, AsksPins, ReplayAsked}
-use Rattle.arguments.specs.declared.Number.{Number}
-use Rattle.arguments.specs.declared.Number.TheVariants.{No, Is}
-use Rattle.arguments.specs.declared.Wanted.{Wanted}
-use Rattle.arguments.specs.declared.Wanted.TheVariants.{Wrong, Of}
-use Rattle.arguments.specs.declared.PinsWanted.{PinsWanted}
-use Rattle.arguments.specs.declared.PinsWanted.TheVariants as pins
 use Rattle.arguments.proofs.Digits.{same_word_lem}
 use Rattle.arguments.specs.contracts.wanted_of as wanted-of
 use Rattle.arguments.proofs.wanted_of.Reads as wanted-of-reads
@@ -67,12 +62,12 @@ pub place-value : (w : List ℕ) → value w ≡ place_value w
 place-value w = places 0 w ∙ rw (zero-mul (10 ^ length w), zero-add (place_value w))
 
 -- a word is taken for n exactly where it is the numeral of n
-pub number-exactly : (w : List ℕ) (n : ℕ) → (number_of w ≡ Is n) ↔ Numeral w n
+pub number-exactly : (w : List ℕ) (n : ℕ) → (number_of w ≡ Some n) ↔ Numeral w n
 unfolding number_of
 number-exactly w n = (go (eqb (length w) 0) (are_digits w) (ltb (value w) limit) refl refl refl, back)
   where
     go : (s d t : Bool) → eqb (length w) 0 ≡ s → are_digits w ≡ d → ltb (value w) limit ≡ t
-        → pick (both (not s) (both d t)) (Is (value w)) No ≡ Is n → Numeral w n
+        → pick (both (not s) (both d t)) (Some (value w)) None ≡ Some n → Numeral w n
     go false true true p q r e =
         let v : value w ≡ n = cc in
         record {
@@ -85,7 +80,7 @@ number-exactly w n = (go (eqb (length w) 0) (are_digits w) (ltb (value w) limit)
     go false false t p q r e = let z : ◌≡◌ {A = ℕ} 0 1 = cc in absurd (omega arith)
     go true d t p q r e = let z : ◌≡◌ {A = ℕ} 0 1 = cc in absurd (omega arith)
 
-    back : Numeral w n → pick (both (not (eqb (length w) 0)) (both (are_digits w) (ltb (value w) limit))) (Is (value w)) No ≡ Is n
+    back : Numeral w n → pick (both (not (eqb (length w) 0)) (both (are_digits w) (ltb (value w) limit))) (Some (value w)) None ≡ Some n
     back h =
         let v : value w ≡ n = place-value w ∙ sym h.value in
         rw (v, ne_eqb (length w) 0 (λ z. h.some (nil w z)), (digits-exactly w).1 h.digits, lt-ltb n limit h.fits)
@@ -95,7 +90,7 @@ number-exactly w n = (go (eqb (length w) 0) (are_digits w) (ltb (value w) limit)
         nil (c ∷ l) z = absurd (omega arith)
 
 -- a number that is printed is read as itself
-pub printed-number : (n : ℕ) → n < 2 ^ 64 → number_of (decimal n) ≡ Is n
+pub printed-number : (n : ℕ) → n < 2 ^ 64 → number_of (decimal n) ≡ Some n
 printed-number n h =
     let wide : n < 10 ^ most_digits = omega (arith, wide_enough) in
     (number-exactly (decimal n) n).1 (record {
@@ -112,11 +107,11 @@ printed-number n h =
 -- ---- words
 module _ (count : ℕ) (first second : List ℕ) where
   -- the words of what is wanted, where something is
-  abbrev WordsOf : Wanted → Type 0
-  WordsOf Wrong = Unit {0}
-  WordsOf (Of a) = Asks count first second a
+  abbrev WordsOf : Option Asked → Type 0
+  WordsOf None = Unit {0}
+  WordsOf (Some a) = Asks count first second a
 
-  chosen : (t : Bool) (x y : Wanted) → (t ≡ true → WordsOf x) → WordsOf y → WordsOf (pick t x y)
+  chosen : (t : Bool) (x y : Option Asked) → (t ≡ true → WordsOf x) → WordsOf y → WordsOf (pick t x y)
   chosen true x y f g = f refl
   chosen false x y f g = g
 
@@ -124,29 +119,29 @@ module _ (count : ℕ) (first second : List ℕ) where
   pub one_word : count ≡ 2 → WordsOf (by_word first)
   unfolding by_word
   one_word e =
-      chosen (same_word first (ascii "modes")) (Of Modes) _ (λ s. (e, same_word_lem first (ascii "modes") s))
-      (chosen (same_word first (ascii "samples")) (Of Samples) _ (λ s. (e, same_word_lem first (ascii "samples") s))
-      (chosen (same_word first (ascii "all")) (Of Whole) Wrong (λ s. (e, same_word_lem first (ascii "all") s)) tt))
+      chosen (same_word first (ascii "modes")) (Some Modes) _ (λ s. (e, same_word_lem first (ascii "modes") s))
+      (chosen (same_word first (ascii "samples")) (Some Samples) _ (λ s. (e, same_word_lem first (ascii "samples") s))
+      (chosen (same_word first (ascii "all")) (Some Whole) None (λ s. (e, same_word_lem first (ascii "all") s)) tt))
 
   -- and two for what came between them, where both are numbers and the first is smaller
   pub two-numbers : count ≡ 3 → WordsOf (between_of (number_of first) (number_of second))
   two-numbers e = go (number_of first) (number_of second) refl refl
     where
-      go : (x y : Number) → number_of first ≡ x → number_of second ≡ y → WordsOf (between_of x y)
-      go No y p q = tt
-      go (Is m) No p q = tt
-      go (Is m) (Is n) p q = chosen (ltb m n) (Of (Between m n)) Wrong (λ l. (e, (number-exactly first m).0 p, (number-exactly second n).0 q, ltb-true m n l)) tt
+      go : (x y : Option ℕ) → number_of first ≡ x → number_of second ≡ y → WordsOf (between_of x y)
+      go None y p q = tt
+      go (Some m) None p q = tt
+      go (Some m) (Some n) p q = chosen (ltb m n) (Some (Between m n)) None (λ l. (e, (number-exactly first m).0 p, (number-exactly second n).0 q, ltb-true m n l)) tt
 
   -- nothing is asked for by other words
   pub wanted-words : WordsOf (wanted_of count first second)
   unfolding wanted_of
   wanted-words =
-      chosen (eqb count 1) (Of Stretches) _ (λ e. eqb-true count 1 e)
+      chosen (eqb count 1) (Some Stretches) _ (λ e. eqb-true count 1 e)
       (chosen (eqb count 2) (by_word first) _ (λ e. one_word (eqb-true count 2 e))
-      (chosen (eqb count 3) (between_of (number_of first) (number_of second)) Wrong (λ e. two-numbers (eqb-true count 3 e)) tt))
+      (chosen (eqb count 3) (between_of (number_of first) (number_of second)) None (λ e. two-numbers (eqb-true count 3 e)) tt))
 
   -- and all of it by these
-  pub words-wanted : (a : Asked) → Asks count first second a → wanted_of count first second ≡ Of a
+  pub words-wanted : (a : Asked) → Asks count first second a → wanted_of count first second ≡ Some a
   unfolding wanted_of by_word same_word
   words-wanted Stretches e = rw (eq-eqb count 1 e)
   words-wanted Modes (e, w) = rw (ne_eqb count 1 (λ z. omega (arith, e, z)), eq-eqb count 2 e, w)
@@ -166,15 +161,15 @@ module _ (count : ℕ) (first second : List ℕ) where
     );
   }
     where
-      go : ((a : Asked) → ¬ Asks count first second a) → (w : Wanted) → wanted_of count first second ≡ w → w ≡ Wrong
-      go none Wrong e = refl
-      go none (Of a) e = absurd (none a (rw e at wanted-words))
+      go : ((a : Asked) → ¬ Asks count first second a) → (w : Option Asked) → wanted_of count first second ≡ w → w ≡ None
+      go none None e = refl
+      go none (Some a) e = absurd (none a (rw e at wanted-words))
 
 -- ---- of the replay
 module _ (count : ℕ) (first : List ℕ) where
-  abbrev PinWordsOf : PinsWanted → Type 0
-  PinWordsOf pins.Wrong = Unit {0}
-  PinWordsOf (pins.Of with_pins) = AsksPins count first with_pins
+  abbrev PinWordsOf : Option Bool → Type 0
+  PinWordsOf None = Unit {0}
+  PinWordsOf (Some with_pins) = AsksPins count first with_pins
 
   -- nothing is asked for by other words, and both by these
   pub pins-words : PinWordsOf (pins_wanted_of count first)
@@ -182,13 +177,13 @@ module _ (count : ℕ) (first : List ℕ) where
   pins-words = go (eqb count 1) (eqb count 2) (same_word first (ascii "pins")) refl refl refl
     where
       go : (s t u : Bool) → eqb count 1 ≡ s → eqb count 2 ≡ t → same_word first (ascii "pins") ≡ u
-          → PinWordsOf (pick s (pins.Of false) (pick t (pick u (pins.Of true) pins.Wrong) pins.Wrong))
+          → PinWordsOf (pick s (Some false) (pick t (pick u (Some true) None) None))
       go true t u p q r = eqb-true count 1 p
       go false true true p q r = (eqb-true count 2 q, same_word_lem first (ascii "pins") r)
       go false true false p q r = tt
       go false false u p q r = tt
 
-  pub words-pins : (with_pins : Bool) → AsksPins count first with_pins → pins_wanted_of count first ≡ pins.Of with_pins
+  pub words-pins : (with_pins : Bool) → AsksPins count first with_pins → pins_wanted_of count first ≡ Some with_pins
   unfolding pins_wanted_of same_word
   words-pins false e = rw (eq-eqb count 1 e)
   words-pins true (e, w) = rw (ne_eqb count 1 (λ z. omega (arith, e, z)), eq-eqb count 2 e, w)
@@ -202,9 +197,9 @@ module _ (count : ℕ) (first : List ℕ) where
     );
   }
     where
-      go : ((a : Bool) → ¬ AsksPins count first a) → (w : PinsWanted) → pins_wanted_of count first ≡ w → w ≡ pins.Wrong
-      go none pins.Wrong e = refl
-      go none (pins.Of a) e = absurd (none a (rw e at pins-words))
+      go : ((a : Bool) → ¬ AsksPins count first a) → (w : Option Bool) → pins_wanted_of count first ≡ w → w ≡ None
+      go none None e = refl
+      go none (Some a) e = absurd (none a (rw e at pins-words))
 
 -- ---- of the contracts themselves, as the toolchain reads them from the source
 pub wanted-of-asked : (κs : Lfts 2) (a : Args wanted-of.signature κs) (r : Res wanted-of.signature κs) (e : AtExit wanted-of.ended κs)

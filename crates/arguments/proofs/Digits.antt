@@ -5,22 +5,24 @@ use mathlib.Core.Bool.{Bool, true, false}
 use mathlib.Core.List.{List, [], ◌∷◌}
 use mathlib.Core.Path.{◌≡◌, refl, sym, ap}
 use native.Mathlib.Omega.{arith}
-use borrow.Author.Tests.{ltb-true, ltb-false, le-ltb, eq-eqb, eqb-true, ne_eqb}
+use borrow.Author.Tests.{ltb-true, ltb-false, lt-ltb, le-ltb, eq-eqb, eqb-true, ne_eqb}
 use lib.Dec.{eqb, ltb}
 use lib.ListN.{length}
+use Rattle.std.specs.Prelude.{Option, Some, None}
 use Rattle.laws.specs.Choice.{pick, both}
 use Rattle.text.specs.Text.{value_on}
 use Rattle.arguments.specs.Words.{is_digit, are_digits, limit, number_of, with_digit, same_word}
-use Rattle.arguments.specs.declared.Number.{Number}
-use Rattle.arguments.specs.declared.Number.TheVariants.{No, Is}
 
 -- the number of digits that are left, behind the digits of n
-abbrev pub number_left : ℕ → List ℕ → Number
-number_left n cs = pick (both (are_digits cs) (ltb (value_on n cs) limit)) (Is (value_on n cs)) No
+abbrev pub number_left : ℕ → List ℕ → Option ℕ
+number_left n cs = pick (both (are_digits cs) (ltb (value_on n cs) limit)) (Some (value_on n cs)) None
 
 pub number-whole : (w : List ℕ) → (length w ≡ 0 → ⊥) → number_of w ≡ number_left 0 w
 unfolding number_of
 number-whole w h = rw (ne_eqb (length w) 0 h)
+
+pub number-done : (n : ℕ) → n < limit → number_left n [] ≡ Some n
+number-done n h = rw (lt-ltb n limit h)
 
 -- digits make a number no smaller
 value-above : (cs : List ℕ) (n : ℕ) → n ≤ value_on n cs
@@ -36,22 +38,22 @@ module _ (n c : ℕ) (cs : List ℕ) where
   more = n * 10 + (c - 48)
 
   -- one digit more
-  pub digit-more : {m : ℕ} → with_digit n c ≡ Is m → (number_left n (c ∷ cs) ≡ number_left m cs) × (m < limit)
+  pub digit-more : {m : ℕ} → with_digit n c ≡ Some m → (number_left n (c ∷ cs) ≡ number_left m cs) × (m < limit)
   unfolding with_digit
   digit-more {m} = go (is_digit c) (ltb more limit) refl
     where
-      go : (d b : Bool) → ltb more limit ≡ b → pick (both d b) (Is more) No ≡ Is m
-          → (pick (both (both d (are_digits cs)) (ltb (value_on more cs) limit)) (Is (value_on more cs)) No ≡ number_left m cs) × (m < limit)
+      go : (d b : Bool) → ltb more limit ≡ b → pick (both d b) (Some more) None ≡ Some m
+          → (pick (both (both d (are_digits cs)) (ltb (value_on more cs) limit)) (Some (value_on more cs)) None ≡ number_left m cs) × (m < limit)
       go true true e q = let s : more ≡ m = cc in (ap (λ (k : ℕ). number_left k cs) s, omega (arith, ltb-true more limit e, s))
       go true false e q = let z : ◌≡◌ {A = ℕ} 0 1 = cc in absurd (omega arith)
       go false b e q = let z : ◌≡◌ {A = ℕ} 0 1 = cc in absurd (omega arith)
 
   -- or none
-  pub digit-none : with_digit n c ≡ No → number_left n (c ∷ cs) ≡ No
+  pub digit-none : with_digit n c ≡ None → number_left n (c ∷ cs) ≡ None
   unfolding with_digit
   digit-none = go (is_digit c) (ltb more limit) refl
     where
-      go : (d b : Bool) → ltb more limit ≡ b → pick (both d b) (Is more) No ≡ No → pick (both (both d (are_digits cs)) (ltb (value_on more cs) limit)) (Is (value_on more cs)) No ≡ No
+      go : (d b : Bool) → ltb more limit ≡ b → pick (both d b) (Some more) None ≡ None → pick (both (both d (are_digits cs)) (ltb (value_on more cs) limit)) (Some (value_on more cs)) None ≡ None
       go true true e q = let z : ◌≡◌ {A = ℕ} 0 1 = cc in absurd (omega arith)
       go true false e q = rw (le-ltb (value_on more cs) limit (omega (arith, ltb-false more limit e, value-above cs more)), both_false (are_digits cs))
       go false b e q = refl

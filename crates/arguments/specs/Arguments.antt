@@ -1,15 +1,11 @@
 -- What the words behind a program's name ask for, from their count and their bytes alone, as the programs say it of themselves. `answer`: "it
 -- takes no argument, one of the words modes, samples and all, or two record numbers, of which the first is smaller"; `replay`: "it takes no
--- argument, or the word pins". No contract cites these.
-use Rattle.std.specs.Prelude.{ℕ, ◌+◌, ◌-◌, ◌*◌, ◌^◌, ◌≤◌, ◌<◌, Bool, true, false, ◌↔◌, ◌≢◌, ◌≡◌, length}
+-- argument, or the word pins". None contract cites these.
+use Rattle.std.specs.Prelude.{ℕ, ◌+◌, ◌-◌, ◌*◌, ◌^◌, ◌≤◌, ◌<◌, Bool, true, false, ◌↔◌, ◌≢◌, ◌≡◌, length, Option, Some, None}
 use mathlib.Core.List.{List, [], ◌∷◌, Memᴰ}
 use Rattle.text.specs.Text.{ascii}
 use Rattle.answers.specs.declared.Asked.{Asked}
 use Rattle.answers.specs.declared.Asked.TheVariants.{Stretches, Modes, Samples, Between, Whole}
-use Rattle.arguments.specs.declared.Wanted.{Wanted}
-use Rattle.arguments.specs.declared.Wanted.TheVariants.{Wrong, Of}
-use Rattle.arguments.specs.declared.PinsWanted.{PinsWanted}
-use Rattle.arguments.specs.declared.PinsWanted.TheVariants as pins
 
 -- by place value: a digit is worth ten times as much for each digit to the right of it
 abbrev pub place_value : List ℕ → ℕ
@@ -34,9 +30,9 @@ module _ (count : ℕ) (first second : List ℕ) where
   Asks (Between from upto) = (count ≡ 3) × Numeral first from × Numeral second upto × (from < upto)
 
   -- each is asked for by these words alone, and all others are wrong
-  pub record AnswerAsked (wanted : Wanted) : Type 0 where
-    pub asked : (a : Asked) → (wanted ≡ Of a) ↔ Asks a
-    pub wrong : (wanted ≡ Wrong) ↔ ((a : Asked) → ¬ Asks a)
+  pub record AnswerAsked (wanted : Option Asked) : Type 0 where
+    pub asked : (a : Asked) → (wanted ≡ Some a) ↔ Asks a
+    pub wrong : (wanted ≡ None) ↔ ((a : Asked) → ¬ Asks a)
 
 module _ (count : ℕ) (first : List ℕ) where
   -- the words that ask `replay` for lines without pins and with them
@@ -44,6 +40,6 @@ module _ (count : ℕ) (first : List ℕ) where
   AsksPins false = count ≡ 1
   AsksPins true = (count ≡ 2) × (first ≡ ascii "pins")
 
-  pub record ReplayAsked (wanted : PinsWanted) : Type 0 where
-    pub asked : (with_pins : Bool) → (wanted ≡ pins.Of with_pins) ↔ AsksPins with_pins
-    pub wrong : (wanted ≡ pins.Wrong) ↔ ((with_pins : Bool) → ¬ AsksPins with_pins)
+  pub record ReplayAsked (wanted : Option Bool) : Type 0 where
+    pub asked : (with_pins : Bool) → (wanted ≡ Some with_pins) ↔ AsksPins with_pins
+    pub wrong : (wanted ≡ None) ↔ ((with_pins : Bool) → ¬ AsksPins with_pins)

@@ -2,226 +2,135 @@
 #![tactic(auto)]
 
 ghost use Rattle.std.specs.Prelude.{◌≡◌};
-ghost use Rattle.text.specs.Text.{ascii};
 ghost use Rattle.arguments.specs.Words.{with_digit, number_of, same_word, by_word, between_of, wanted_of, pins_wanted_of, sheet_by_word, sheet_wanted_of};
 
 use answers::Asked;
 
-// The number that a word stands for, where it does.
-#[derive(Clone, Copy)]
-pub enum Number {
-    No,
-    Is(u64),
-}
-
-// What is asked for, where the words say so.
-#[derive(Clone, Copy)]
-pub enum Wanted {
-    Wrong,
-    Of(Asked),
-}
-
 // A number with one digit more behind its own: none, where it is no digit or the number has more than 64 bits then.
 #[tactic(auto, unfolding(crate::specs::Words::with_digit))]
-fn with_digit(n: u64, c: u8) -> Number
+fn with_digit(n: u64, c: u8) -> Option<u64>
     ensures { result ≡ with_digit n c }
 {
-    if c < 48 {
-        return Number::No;
+    if c < b'0' || b'9' < c {
+        return None;
     }
-    if 58 <= c {
-        return Number::No;
-    }
-    let digit = (c - 48) as u64;
-    if (u64::MAX - digit) / 10 < n {
-        return Number::No;
-    }
-    Number::Is(n * 10 + digit)
+    n.checked_mul(10)?.checked_add((c - b'0') as u64)
 }
 
 // The number that decimal digits stand for.
 #[tactic(auto, unfolding(crate::specs::Words::number_of))]
-pub fn number_of(word: &[u8]) -> Number
+pub fn number_of(word: &[u8]) -> Option<u64>
     ensures { result ≡ number_of word.now }
 {
-    if word.len() == 0 {
-        return Number::No;
+    if word.is_empty() {
+        return None;
     }
     let mut n: u64 = 0;
-    let mut i: usize = 0;
-    while i < word.len() {
-        let next = with_digit(n, word[i]);
-        let Number::Is(m) = next else {
-            return Number::No;
-        };
-        n = m;
-        i += 1;
+    for c in word {
+        n = with_digit(n, *c)?;
     }
-    Number::Is(n)
+    Some(n)
 }
 
-fn is_samples(word: &[u8]) -> bool
-    ensures { result ≡ same_word word.now (ascii "samples") }
+// Whether a word is this one.
+fn is_word(word: &[u8], this: &[u8]) -> bool
+    ensures { result ≡ same_word word.now this.now }
 {
-    check::same(word, b"samples")
-}
-
-fn is_modes(word: &[u8]) -> bool
-    ensures { result ≡ same_word word.now (ascii "modes") }
-{
-    check::same(word, b"modes")
-}
-
-fn is_all(word: &[u8]) -> bool
-    ensures { result ≡ same_word word.now (ascii "all") }
-{
-    check::same(word, b"all")
+    check::same(word, this)
 }
 
 // What one word asks for.
 #[tactic(auto, unfolding(crate::specs::Words::by_word))]
-fn by_word(word: &[u8]) -> Wanted
+fn by_word(word: &[u8]) -> Option<Asked>
     ensures { result ≡ by_word word.now }
 {
-    if is_modes(word) {
-        return Wanted::Of(Asked::Modes);
+    if is_word(word, b"modes") {
+        return Some(Asked::Modes);
     }
-    if is_samples(word) {
-        return Wanted::Of(Asked::Samples);
+    if is_word(word, b"samples") {
+        return Some(Asked::Samples);
     }
-    if is_all(word) {
-        return Wanted::Of(Asked::Whole);
+    if is_word(word, b"all") {
+        return Some(Asked::Whole);
     }
-    Wanted::Wrong
+    None
 }
 
 // What came after one record and up to another, which is a later one.
-fn between(from: Number, upto: Number) -> Wanted
+fn between(from: Option<u64>, upto: Option<u64>) -> Option<Asked>
     ensures { result ≡ between_of from upto }
 {
-    let Number::Is(m) = from else {
-        return Wanted::Wrong;
-    };
-    let Number::Is(n) = upto else {
-        return Wanted::Wrong;
-    };
+    let m = from?;
+    let n = upto?;
     if m < n {
-        Wanted::Of(Asked::Between(m, n))
+        Some(Asked::Between(m, n))
     } else {
-        Wanted::Wrong
+        None
     }
 }
 
-// What is asked for by so many words, of which the program's name is one, and by the two behind it.
+// What is asked for by so many words, of which the program's name is one, and by the two behind it; where the words say so.
 #[tactic(auto, unfolding(crate::specs::Words::wanted_of))]
-pub fn wanted_of(count: usize, first: &[u8], second: &[u8]) -> Wanted
+pub fn wanted_of(count: usize, first: &[u8], second: &[u8]) -> Option<Asked>
     ensures { result ≡ wanted_of count first.now second.now }
 {
-    if count == 1 {
-        return Wanted::Of(Asked::Stretches);
+    match count {
+        1 => Some(Asked::Stretches),
+        2 => by_word(first),
+        3 => between(number_of(first), number_of(second)),
+        _ => None,
     }
-    if count == 2 {
-        return by_word(first);
-    }
-    if count == 3 {
-        return between(number_of(first), number_of(second));
-    }
-    Wanted::Wrong
 }
 
-// Whether the pins are asked for, where the words say so.
-#[derive(Clone, Copy)]
-pub enum PinsWanted {
-    Wrong,
-    Of(bool),
-}
-
-fn is_pins(word: &[u8]) -> bool
-    ensures { result ≡ same_word word.now (ascii "pins") }
-{
-    check::same(word, b"pins")
-}
-
-// Whether the pins are asked for behind every line of a replay: by so many words, of which the program's name is one, and by the one
-// behind it.
+// Whether the pins are asked for behind every line of a replay, where the words say so: by so many words, of which the program's name is
+// one, and by the one behind it.
 #[tactic(auto, unfolding(crate::specs::Words::pins_wanted_of))]
-pub fn pins_of(count: usize, first: &[u8]) -> PinsWanted
+pub fn pins_of(count: usize, first: &[u8]) -> Option<bool>
     ensures { result ≡ pins_wanted_of count first.now }
 {
-    if count == 1 {
-        return PinsWanted::Of(false);
+    match count {
+        1 => Some(false),
+        2 if is_word(first, b"pins") => Some(true),
+        _ => None,
     }
-    if count == 2 {
-        return if is_pins(first) {
-            PinsWanted::Of(true)
-        } else {
-            PinsWanted::Wrong
-        };
-    }
-    PinsWanted::Wrong
 }
 
-// What is asked for of a sheet, where the words say so: the text or the bytes of the sheet over logs, or of sheets joined.
+// What is asked for of a sheet: the text or the bytes of the sheet over logs, or of sheets joined.
 #[derive(Clone, Copy)]
 pub enum SheetWanted {
-    Wrong,
     Print,
     Raw,
     Join,
     JoinRaw,
 }
 
-fn is_print(word: &[u8]) -> bool
-    ensures { result ≡ same_word word.now (ascii "print") }
-{
-    check::same(word, b"print")
-}
-
-fn is_raw(word: &[u8]) -> bool
-    ensures { result ≡ same_word word.now (ascii "raw") }
-{
-    check::same(word, b"raw")
-}
-
-fn is_join(word: &[u8]) -> bool
-    ensures { result ≡ same_word word.now (ascii "join") }
-{
-    check::same(word, b"join")
-}
-
-fn is_join_raw(word: &[u8]) -> bool
-    ensures { result ≡ same_word word.now (ascii "join-raw") }
-{
-    check::same(word, b"join-raw")
-}
-
 #[tactic(auto, unfolding(crate::specs::Words::sheet_by_word))]
-fn sheet_by_word(word: &[u8]) -> SheetWanted
+fn sheet_by_word(word: &[u8]) -> Option<SheetWanted>
     ensures { result ≡ sheet_by_word word.now }
 {
-    if is_print(word) {
-        return SheetWanted::Print;
+    if is_word(word, b"print") {
+        return Some(SheetWanted::Print);
     }
-    if is_raw(word) {
-        return SheetWanted::Raw;
+    if is_word(word, b"raw") {
+        return Some(SheetWanted::Raw);
     }
-    if is_join(word) {
-        return SheetWanted::Join;
+    if is_word(word, b"join") {
+        return Some(SheetWanted::Join);
     }
-    if is_join_raw(word) {
-        return SheetWanted::JoinRaw;
+    if is_word(word, b"join-raw") {
+        return Some(SheetWanted::JoinRaw);
     }
-    SheetWanted::Wrong
+    None
 }
 
-// What is asked for of a sheet by so many words, of which the program's name is one, and by the one behind it. Behind that stands a name,
-// at least.
+// What is asked for of a sheet, where the words say so: by so many words, of which the program's name is one, and by the one behind it.
+// Behind that stands a name, at least.
 #[tactic(auto, unfolding(crate::specs::Words::sheet_wanted_of))]
-pub fn sheet_of(count: usize, first: &[u8]) -> SheetWanted
+pub fn sheet_of(count: usize, first: &[u8]) -> Option<SheetWanted>
     ensures { result ≡ sheet_wanted_of count first.now }
 {
     if count < 3 {
-        return SheetWanted::Wrong;
+        return None;
     }
     sheet_by_word(first)
 }

@@ -3,6 +3,8 @@
 #![tactic(auto)]
 
 ghost use Rattle.std.specs.Prelude.{false, ◌≡◌, ◌≤◌, length};
+ghost use Rattle.std.specs.Process.{exit_status};
+ghost use Rattle.caller.specs.Output.{status_of};
 
 use std::env::FillError;
 use std::fs::OpenOptions;
@@ -15,7 +17,7 @@ use std::{fs, io};
 // The right to write, in the mode of a descriptor's link.
 const WRITES: u32 = 0o200;
 
-// How many words the program was started with, its own name among them.
+// How many words the program was started with, its own name among them. They come one by one, by their place: no iterator has them.
 pub fn word_count<R: Env>(rt: &R) -> usize {
     let mut room = [0u8; 1];
     for i in 0..usize::MAX {
@@ -83,7 +85,9 @@ impl<W: Write> Output<W> {
     }
 
     // The status of the process where this is all that it still writes. Whatever else its end was is told by a digit.
-    pub fn status(&self) -> ExitCode {
+    pub fn status(&self) -> ExitCode
+        ensures { exit_status result ≡ status_of self.now.is_closed }
+    {
         if self.is_closed {
             ExitCode::from(CLOSED)
         } else {

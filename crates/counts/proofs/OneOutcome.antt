@@ -3,8 +3,6 @@
 use Rattle.std.proofs.Common.{refl}
 use Rattle.laws.specs.Outcome.{Settled}
 use Rattle.laws.proofs.Outcome.{settles, meet}
-use Rattle.counts.specs.contracts.plus as plus
-use Rattle.counts.specs.contracts.less_by as less_by
 use Rattle.counts.specs.contracts.ends_stretch as ends-stretch
 use Rattle.counts.specs.contracts.Counts.none as none
 use Rattle.counts.specs.contracts.Counts.since as since
@@ -17,12 +15,6 @@ use Rattle.counts.specs.contracts.Account.moved as moved
 use Rattle.counts.specs.contracts.Account.has_range_of as has-range-of
 use Rattle.counts.specs.contracts.Account.has_mode_of as has-mode-of
 use Rattle.counts.specs.contracts.back_of as back-of
-
-pub plus-settled : Settled plus.ended (λ M 𝓤. plus.clauses) (λ M 𝓤. plus.spec)
-plus-settled = settles (λ κs a r r' s s' p q. (meet p q, refl))
-
-pub less-by-settled : Settled less_by.ended (λ M 𝓤. less_by.clauses) (λ M 𝓤. less_by.spec)
-less-by-settled = settles (λ κs a r r' s s' p q. (meet p q, refl))
 
 pub ends-stretch-settled : Settled ends-stretch.ended (λ M 𝓤. ends-stretch.clauses) (λ M 𝓤. ends-stretch.spec)
 ends-stretch-settled = settles (λ κs a r r' s s' p q. (meet p q, refl))

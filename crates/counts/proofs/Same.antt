@@ -1,6 +1,6 @@
 -- What is the same in two accounts is equal in them: the tests of the code are tests of equality.
 -- Assumes nothing.
-use Rattle.std.proofs.Common.{◌≡◌, ℕ, Bool, true, false, eqb, ◌↔◌, sym, refl, ap, ◌∙◌, eq-eqb, eqb-true}
+use Rattle.std.proofs.Common.{◌≡◌, ℕ, Bool, true, false, eqb, ◌↔◌, sym, refl, ap, ◌∙◌, eq-eqb, eqb-true, Option, None, Some}
 use Rattle.laws.specs.Choice.{pick, both}
 use Rattle.codes.specs.declared.Mode.{Mode}
 use Rattle.codes.specs.declared.Mode.TheVariants.{Bypass, Fifo, Stream}
@@ -11,7 +11,6 @@ use Rattle.codes.specs.declared.Range.TheVariants as range
 use Rattle.counts.specs.Counts.{is_same_doubt, in_g, mode_bits, is_same_range, is_same_mode}
 use Rattle.counts.specs.declared.Account.{Account}
 use Rattle.counts.specs.declared.Doubt.{Doubt}
-use Rattle.counts.specs.declared.Doubt.TheVariants.{No, By}
 
 both_of : (s t : Bool) → both s t ≡ true → (s ≡ true) × (t ≡ true)
 both_of true t h = (refl, h)
@@ -21,17 +20,17 @@ same_number : (n : ℕ) → eqb n n ≡ true
 same_number n = eq-eqb n n refl
 
 -- ---- doubts
-doubt-equal : (d d' : Doubt) → is_same_doubt d d' ≡ true → d ≡ d'
-doubt-equal No No h = refl
-doubt-equal No (By b n) h = cc
-doubt-equal (By b n) No h = cc
-doubt-equal (By b n) (By c m) h =
-    let p = both_of (eqb n m) (eqb b c) h in
-    λ i. By (eqb-true b c p.1 i) (eqb-true n m p.0 i)
+doubt-equal : (d d' : Option Doubt) → is_same_doubt d d' ≡ true → d ≡ d'
+doubt-equal None None h = refl
+doubt-equal None (Some d) h = cc
+doubt-equal (Some d) None h = cc
+doubt-equal (Some d) (Some d') h =
+    let p = both_of (eqb d.number d'.number) (eqb d.byte d'.byte) h in
+    λ i. Some (record { byte = eqb-true d.byte d'.byte p.1 i; number = eqb-true d.number d'.number p.0 i })
 
-doubt-same : (d : Doubt) → is_same_doubt d d ≡ true
-doubt-same No = refl
-doubt-same (By b n) = rw (same_number n, same_number b)
+doubt-same : (d : Option Doubt) → is_same_doubt d d ≡ true
+doubt-same None = refl
+doubt-same (Some d) = rw (same_number d.number, same_number d.byte)
 
 -- ---- ranges and modes: no two have the same size, or the same bits
 of_g : ℕ → Range

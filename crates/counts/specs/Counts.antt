@@ -1,6 +1,6 @@
 -- What is known of a device's events, as numbers: the counts, and the account that they stand in; whether a stretch ends; and which sample
 -- an arrival loses.
-use Rattle.std.specs.Prelude.{ℕ, ◌+◌, ◌-◌, ◌%◌, ◌^◌, Bool, true, false, ◌==◌}
+use Rattle.std.specs.Prelude.{ℕ, ◌+◌, ◌-◌, ◌%◌, ◌^◌, Bool, true, false, ◌==◌, Option, None, Some}
 use Rattle.laws.specs.Choice.{pick, both}
 use Rattle.codes.specs.declared.Mode.{Mode}
 use Rattle.codes.specs.declared.Mode.TheVariants.{Bypass, Fifo, Stream}
@@ -11,10 +11,8 @@ use Rattle.codes.specs.declared.Range.TheVariants as range
 use Rattle.counts.specs.declared.Account.{Account}
 use Rattle.counts.specs.declared.Counts.{Counts}
 use Rattle.counts.specs.declared.Doubt.{Doubt}
-use Rattle.counts.specs.declared.Doubt.TheVariants.{No, By}
 use Rattle.counts.specs.declared.Doubts.{Doubts}
 use Rattle.counts.specs.declared.Why.{Why}
-use Rattle.counts.specs.declared.Why.TheVariants as why
 
 -- ---- 64 bits, which wrap as the record number does
 abbrev pub sum : ℕ → ℕ → ℕ
@@ -73,16 +71,13 @@ arrived c lost = record {
 }
 
 -- ---- whether a stretch ends, by why it does
-abbrev pub ends : Why → Bool
-ends why.Nothing = false
-ends why.Readout = true
-ends why.Range = true
-ends why.Refused = true
-ends why.Reset = true
+abbrev pub ends : Option Why → Bool
+ends None = false
+ends (Some w) = true
 
 -- ---- the account
 abbrev pub no_doubts : Doubts
-no_doubts = record { range = No; mode = No }
+no_doubts = record { range = None; mode = None }
 
 abbrev pub first_account : Account
 first_account = record { number = 0; counts = no_counts; doubts = no_doubts; range = G2; mode = Bypass; held = 0 }
@@ -93,11 +88,11 @@ account_moved a counts doubts range mode held =
     record { number = sum a.number 1; counts = counts; doubts = doubts; range = range; mode = mode; held = held }
 
 -- ---- what is the same in two accounts
-abbrev pub is_same_doubt : Doubt → Doubt → Bool
-is_same_doubt No No = true
-is_same_doubt No (By byte number) = false
-is_same_doubt (By byte number) No = false
-is_same_doubt (By byte number) (By byte' number') = both (number == number') (byte == byte')
+abbrev pub is_same_doubt : Option Doubt → Option Doubt → Bool
+is_same_doubt None None = true
+is_same_doubt None (Some d) = false
+is_same_doubt (Some d) None = false
+is_same_doubt (Some d) (Some d') = both (d.number == d'.number) (d.byte == d'.byte)
 
 -- a range in g
 abbrev pub in_g : Range → ℕ

@@ -4,13 +4,12 @@
 #![tactic(auto)]
 
 ghost use Rattle.std.specs.Prelude.{◌≡◌};
-ghost use Rattle.counts.specs.Counts.{no_counts, no_doubts, first_account, sum, less, left, with_readouts, differences, account_moved, arrived, ends, is_same_doubt, is_same_range, is_same_mode, in_g, mode_bits, back_of};
+ghost use Rattle.counts.specs.Counts.{no_counts, no_doubts, first_account, left, with_readouts, differences, account_moved, arrived, ends, is_same_range, is_same_mode, back_of};
 
 use codes::{Mode, Range};
-use laws::both;
 
 // How many, since power-up: samples accepted, frames taken, samples lost, frames held when the FIFO was cleared, events refused, and
-// readouts.
+// readouts. Each wraps as the record number does.
 #[derive(Clone, Copy)]
 pub struct Counts {
     pub accepted: u64,
@@ -21,25 +20,23 @@ pub struct Counts {
     pub readouts: u64,
 }
 
-// Whether what a register sets is in doubt: by the refused write to it of this byte, in the record of this number. The byte comes first, so
-// that a doubt has no gap that a copy would move.
-#[derive(Clone, Copy)]
-pub enum Doubt {
-    No,
-    By(u8, u64),
+// What a register sets is in doubt by the refused write to it of this byte, in the record of this number.
+#[derive(Clone, Copy, PartialEq, Eq)]
+pub struct Doubt {
+    pub byte: u8,
+    pub number: u64,
 }
 
-// The doubt of the range, by 0x0F, and of the FIFO's mode, by 0x3E.
+// The doubt of the range, by 0x0F, and of the FIFO's mode, by 0x3E, where there is one.
 #[derive(Clone, Copy)]
 pub struct Doubts {
-    pub range: Doubt,
-    pub mode: Doubt,
+    pub range: Option<Doubt>,
+    pub mode: Option<Doubt>,
 }
 
-// Why a stretch of events ends with this one, where it does.
-#[derive(Clone, Copy)]
+// Why a stretch of events ends with this one.
+#[derive(Clone, Copy, PartialEq, Eq)]
 pub enum Why {
-    Nothing,
     Readout,
     Range,
     Refused,
@@ -57,30 +54,11 @@ pub struct Account {
     pub held: u64,
 }
 
-// Counts wrap as the record number does.
-pub fn plus(a: u64, b: u64) -> u64
-    ensures { result ≡ sum a b }
-{
-    std::num::wrapping_add_u64(a, b)
-}
-
-pub fn less_by(a: u64, b: u64) -> u64
-    ensures { result ≡ less a b }
-{
-    std::num::wrapping_sub_u64(a, b)
-}
-
 // Whether a stretch ends.
-pub fn ends_stretch(why: Why) -> bool
+pub fn ends_stretch(why: Option<Why>) -> bool
     ensures { result ≡ ends why }
 {
-    match why {
-        Why::Nothing => false,
-        Why::Readout => true,
-        Why::Range => true,
-        Why::Refused => true,
-        Why::Reset => true,
-    }
+    why.is_some()
 }
 
 impl Counts {
@@ -102,12 +80,12 @@ impl Counts {
         ensures { result ≡ differences earlier self }
     {
         Counts {
-            accepted: less_by(self.accepted, earlier.accepted),
-            taken: less_by(self.taken, earlier.taken),
-            lost: less_by(self.lost, earlier.lost),
-            cleared: less_by(self.cleared, earlier.cleared),
-            refused: less_by(self.refused, earlier.refused),
-            readouts: less_by(self.readouts, earlier.readouts),
+            accepted: self.accepted.wrapping_sub(earlier.accepted),
+            taken: self.taken.wrapping_sub(earlier.taken),
+            lost: self.lost.wrapping_sub(earlier.lost),
+            cleared: self.cleared.wrapping_sub(earlier.cleared),
+            refused: self.refused.wrapping_sub(earlier.refused),
+            readouts: self.readouts.wrapping_sub(earlier.readouts),
         }
     }
 
@@ -116,12 +94,10 @@ impl Counts {
         ensures { result ≡ left self taken cleared refused }
     {
         Counts {
-            accepted: self.accepted,
-            taken: plus(self.taken, taken),
-            lost: self.lost,
-            cleared: plus(self.cleared, cleared),
-            refused: plus(self.refused, refused),
-            readouts: self.readouts,
+            taken: self.taken.wrapping_add(taken),
+            cleared: self.cleared.wrapping_add(cleared),
+            refused: self.refused.wrapping_add(refused),
+            ..self
         }
     }
 
@@ -130,12 +106,8 @@ impl Counts {
         ensures { result ≡ with_readouts self readouts }
     {
         Counts {
-            accepted: self.accepted,
-            taken: self.taken,
-            lost: self.lost,
-            cleared: self.cleared,
-            refused: self.refused,
-            readouts: plus(self.readouts, readouts),
+            readouts: self.readouts.wrapping_add(readouts),
+            ..self
         }
     }
 
@@ -144,12 +116,9 @@ impl Counts {
         ensures { result ≡ arrived self lost }
     {
         Counts {
-            accepted: plus(self.accepted, 1),
-            taken: self.taken,
-            lost: plus(self.lost, lost),
-            cleared: self.cleared,
-            refused: self.refused,
-            readouts: self.readouts,
+            accepted: self.accepted.wrapping_add(1),
+            lost: self.lost.wrapping_add(lost),
+            ..self
         }
     }
 }
@@ -159,8 +128,8 @@ impl Doubts {
         ensures { result ≡ no_doubts }
     {
         Doubts {
-            range: Doubt::No,
-            mode: Doubt::No,
+            range: None,
+            mode: None,
         }
     }
 }
@@ -185,7 +154,7 @@ impl Account {
         ensures { result ≡ account_moved self counts doubts range mode held }
     {
         Account {
-            number: plus(self.number, 1),
+            number: self.number.wrapping_add(1),
             counts,
             doubts,
             range,
@@ -198,71 +167,14 @@ impl Account {
     pub fn has_range_of(self, other: Account) -> bool
         ensures { result ≡ is_same_range self other }
     {
-        let mine = self.range;
-        let others = other.range;
-        let doubts = self.doubts;
-        let doubted = other.doubts;
-        let doubt = doubts.range;
-        let other_doubt = doubted.range;
-        both(in_g(mine) == in_g(others), same_doubt(doubt, other_doubt))
+        self.range == other.range && self.doubts.range == other.doubts.range
     }
 
     // Whether the mode, and what is doubted of it, is.
     pub fn has_mode_of(self, other: Account) -> bool
         ensures { result ≡ is_same_mode self other }
     {
-        let mine = self.mode;
-        let others = other.mode;
-        let doubts = self.doubts;
-        let doubted = other.doubts;
-        let doubt = doubts.mode;
-        let other_doubt = doubted.mode;
-        both(
-            mode_bits(mine) == mode_bits(others),
-            same_doubt(doubt, other_doubt),
-        )
-    }
-}
-
-// ---- what is the same
-// A range in g, and 0 where it is none.
-fn in_g(range: Range) -> u8
-    ensures { result ≡ in_g range }
-{
-    match range {
-        Range::G2 => 2,
-        Range::G4 => 4,
-        Range::G8 => 8,
-        Range::G16 => 16,
-        Range::Reserved => 0,
-    }
-}
-
-// A mode's bits in 0x3E.
-fn mode_bits(mode: Mode) -> u8
-    ensures { result ≡ mode_bits mode }
-{
-    match mode {
-        Mode::Bypass => 0,
-        Mode::Fifo => 1,
-        Mode::Stream => 2,
-        Mode::Reserved => 3,
-    }
-}
-
-// Whether two doubts are by the same record and byte, or neither is one.
-fn same_doubt(one: Doubt, other: Doubt) -> bool
-    ensures { result ≡ is_same_doubt one other }
-{
-    match one {
-        Doubt::No => match other {
-            Doubt::No => true,
-            Doubt::By(_, _) => false,
-        },
-        Doubt::By(byte, number) => match other {
-            Doubt::No => false,
-            Doubt::By(another, others) => both(number == others, byte == another),
-        },
+        self.mode == other.mode && self.doubts.mode == other.doubts.mode
     }
 }
 
@@ -276,9 +188,7 @@ pub fn back_of(lost: u64, mode: Mode, held: u64) -> u64
         return 0;
     }
     match mode {
-        Mode::Bypass => held,
-        Mode::Fifo => 0,
-        Mode::Stream => held,
-        Mode::Reserved => 0,
+        Mode::Bypass | Mode::Stream => held,
+        Mode::Fifo | Mode::Reserved => 0,
     }
 }

@@ -15,10 +15,9 @@ use Rattle.channels.specs.declared.Channels.{Channels}
 use Rattle.fifo.specs.Flat.{Flat, numbers_of}
 use Rattle.fifo.specs.Store.{readout_at}
 use Rattle.detectors.specs.Detectors.{detectors_written}
-use Rattle.registers.specs.Answers.{accepted}
+use Rattle.registers.specs.Answers.{Answer, accepted}
 use Rattle.registers.specs.Deeds.{judgement}
 use Rattle.registers.specs.Refused.{read_answer}
-use Rattle.registers.specs.declared.Answer.{Answer}
 use Rattle.registers.specs.declared.Judged.{Judged}
 use Rattle.device.specs.Device.{depth, reg, flat_of, with_channels, with_flat}
 use Rattle.device.specs.Show.{inside_of}

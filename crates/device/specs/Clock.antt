@@ -1,7 +1,7 @@
 -- Q-4: "Add a clock event with a 32-bit count of microseconds to the device".
 use Rattle.std.specs.Prelude.{ℕ}
 use Rattle.detectors.specs.Detectors.{detectors_clocked}
-use Rattle.registers.specs.declared.Answer.TheVariants.{Done}
+use Rattle.registers.specs.Answers.{done}
 use Rattle.device.specs.declared.Device.{Device}
 use Rattle.device.specs.declared.Answered.{Answered}
 
@@ -18,4 +18,4 @@ clocked us d = record {
 }
 
 unfoldable pub clock_of : Device → ℕ → Answered
-clock_of d us = record { answer = Done; device = clocked us d }
+clock_of d us = record { answer = done; device = clocked us d }

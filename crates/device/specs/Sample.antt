@@ -1,5 +1,5 @@
 -- A sample, and the start of an acquisition cycle.
-use Rattle.std.specs.Prelude.{ℕ, true, false, not, List, [], ◌∷◌, ℤ}
+use Rattle.std.specs.Prelude.{ℕ, true, false, not, List, [], ◌∷◌, ℤ, Err}
 use Rattle.laws.specs.Choice.{pick, either}
 use Rattle.laws.specs.Refusals.{AnswerRow, row, first}
 use Rattle.codes.specs.Addresses.{control_at}
@@ -15,19 +15,18 @@ use Rattle.fifo.specs.Store.{pushed_at}
 use Rattle.offsets.specs.Offsets.{stored_by}
 use Rattle.detectors.specs.Detectors.{detectors_sampled}
 use Rattle.detectors.specs.declared.Detectors.{Detectors}
-use Rattle.registers.specs.Answers.{accepted}
-use Rattle.registers.specs.declared.Answer.{Answer}
-use Rattle.registers.specs.declared.Answer.TheVariants.{Done, OutOfRange}
+use Rattle.registers.specs.Answers.{Answer, done, accepted}
+use Rattle.registers.specs.declared.Refusal.TheVariants.{OutOfRange}
 use Rattle.device.specs.Device.{depth, reg, flat_of, with_came}
 use Rattle.device.specs.declared.Device.{Device}
 use Rattle.device.specs.declared.Answered.{Answered}
 
 -- 4, "x, y or z outside -2048..2047"; Q-7: "4 still tests the given sample"
 abbrev pub sample_rows : ℤ → ℤ → ℤ → List (AnswerRow Answer)
-sample_rows x y z = row OutOfRange (either (not (in_range x)) (either (not (in_range y)) (not (in_range z)))) ∷ []
+sample_rows x y z = row (Err OutOfRange) (either (not (in_range x)) (either (not (in_range y)) (not (in_range z)))) ∷ []
 
 unfoldable pub sample_answer : ℤ → ℤ → ℤ → Answer
-sample_answer x y z = first Done (sample_rows x y z)
+sample_answer x y z = first done (sample_rows x y z)
 
 -- "LSB then MSB, new-data bit 1", and zeros behind
 abbrev pub one_axis : ℕ → List ℕ
@@ -75,4 +74,4 @@ sample_of d x y z temperature = record {
 
 -- "since the last cycle start"
 unfoldable pub cycle_of : Device → Answered
-cycle_of d = record { answer = Done; device = with_came d false }
+cycle_of d = record { answer = done; device = with_came d false }

@@ -19,12 +19,17 @@ use Rattle.interrupts.specs.declared.Sources.{Sources}
 use Rattle.interrupts.specs.declared.Statuses.{Statuses}
 use Rattle.interrupts.specs.declared.Pins.{Pins}
 use Rattle.device.specs.Device.{depth}
+use Rattle.device.specs.Parts.{core_of}
 use Rattle.device.specs.declared.Device.{Device}
+use Rattle.device.specs.declared.parts.Core.{Core}
 use Rattle.device.specs.declared.showing.Inside.{Inside}
 
 -- what shows beside registers and channels: neither needs the FIFO's store
+abbrev pub inside_in : Core → Inside
+inside_in c = record { temperature = c.temperature; came = c.came; fifo = c.fifo; alarms = alarms_of c.detectors }
+
 abbrev pub inside_of : Device → Inside
-inside_of d = record { temperature = d.temperature; came = d.came; fifo = d.fifo; alarms = alarms_of d.detectors }
+inside_of d = inside_in (core_of d)
 
 -- what the statuses are made of; "the depth" is that of the mode in 0x3E
 abbrev pub sources_of : List ℕ → Inside → Sources

@@ -75,10 +75,9 @@ impl Device {
     pub fn write(mut self, address: u8, byte: u8) -> Answered
         ensures { result ≡ write_of self address byte }
     {
-        let core = self.core();
-        let mut regs = self.regs;
-        let done = core.write(&mut regs, &mut self.frames, address, byte);
-        self.regs = regs;
+        let done = self
+            .core()
+            .write(&mut self.regs, &mut self.frames, address, byte);
         self.answered(done)
     }
 
@@ -86,9 +85,9 @@ impl Device {
     pub fn read(mut self, address: u8, buffer: &mut [u8]) -> Answered
         ensures { (result ≡ read_of self address (length buffer.old)) × (buffer.new ≡ buffer_after self address buffer.old) }
     {
-        let core = self.core();
-        let regs = self.regs;
-        let done = core.read(&regs, &mut self.frames, address, buffer);
+        let done = self
+            .core()
+            .read(&self.regs, &mut self.frames, address, buffer);
         self.answered(done)
     }
 
@@ -96,9 +95,9 @@ impl Device {
     pub fn sample(mut self, x: i16, y: i16, z: i16, temperature: u8) -> Answered
         ensures { result ≡ sample_of self x y z temperature }
     {
-        let core = self.core();
-        let regs = self.regs;
-        let done = core.sample(&regs, &mut self.frames, x, y, z, temperature);
+        let done = self
+            .core()
+            .sample(&self.regs, &mut self.frames, x, y, z, temperature);
         self.answered(done)
     }
 
@@ -106,13 +105,9 @@ impl Device {
     fn answered(self, done: CoreAnswered) -> Answered
         ensures { result ≡ answered_whole done (registers_of self) (frames_of self) }
     {
-        let answer = done.answer;
-        let core = done.core;
-        let regs = self.regs;
-        let frames = self.frames;
         Answered {
-            answer,
-            device: Device::of_parts(core, regs, frames),
+            answer: done.answer,
+            device: Device::of_parts(done.core, self.regs, self.frames),
         }
     }
 
@@ -123,7 +118,7 @@ impl Device {
     {
         self.came = false;
         Answered {
-            answer: Answer::Done,
+            answer: Ok(()),
             device: self,
         }
     }
@@ -133,10 +128,9 @@ impl Device {
     pub fn clock(mut self, microseconds: u32) -> Answered
         ensures { result ≡ clock_of self microseconds }
     {
-        let detectors = self.detectors;
-        self.detectors = detectors.clock(microseconds);
+        self.detectors = self.detectors.clock(microseconds);
         Answered {
-            answer: Answer::Done,
+            answer: Ok(()),
             device: self,
         }
     }
@@ -145,32 +139,27 @@ impl Device {
     pub fn pins(self) -> Pins
         ensures { result ≡ pins_of self }
     {
-        let regs = self.regs;
-        let core = self.core();
-        core.pins(&regs)
+        self.core().pins(&self.regs)
     }
 
     // How many frames the FIFO holds.
     pub fn held(self) -> usize
         ensures { result ≡ held_in self }
     {
-        let core = self.core();
-        core.held()
+        self.core().held()
     }
 
     // The measuring range.
     pub fn range(self) -> Range
         ensures { result ≡ range_in self }
     {
-        let regs = self.regs;
-        range_in(&regs)
+        range_in(&self.regs)
     }
 
     // The FIFO's mode.
     pub fn mode(self) -> Mode
         ensures { result ≡ mode_in self }
     {
-        let regs = self.regs;
-        mode_in(&regs)
+        mode_in(&self.regs)
     }
 }

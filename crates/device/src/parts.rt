@@ -2,7 +2,7 @@
 // many events need not copy what an event leaves alone. Each contract is that of the event by value, of the device that the parts are.
 ghost use Rattle.std.specs.Prelude.{◌≡◌, ℕ, List, length};
 ghost use Rattle.device.specs.Parts.{core_of, registers_of, frames_of, whole, answered_whole};
-ghost use Rattle.device.specs.Show.{pins_of, held_in, range_in, mode_in, stored_in};
+ghost use Rattle.device.specs.Show.{inside_in, pins_of, held_in, range_in, mode_in, stored_in};
 ghost use Rattle.device.specs.Write.{write_of};
 ghost use Rattle.device.specs.Read.{read_of, buffer_after};
 ghost use Rattle.device.specs.Sample.{sample_of, cycle_of};
@@ -45,6 +45,18 @@ pub struct CoreAnswered {
 }
 
 impl Core {
+    // What shows beside registers and channels.
+    fn inside(self) -> Inside
+        ensures { result ≡ inside_in self }
+    {
+        Inside {
+            temperature: self.temperature,
+            came: self.came,
+            fifo: self.fifo,
+            alarms: self.detectors.alarms(),
+        }
+    }
+
     // A register write.
     pub fn write(
         mut self,
@@ -57,20 +69,19 @@ impl Core {
             ≡ write_of (whole self regs.old frames.old) address byte }
     {
         let judged = judge_write(&*regs, address, byte);
-        let answer = judged.answer;
         let deeds = judged.deeds;
         write_registers(regs, deeds, address, judged.stored);
-        let channels = self.channels;
-        self.channels = write_channels(channels, deeds);
-        let detectors = self.detectors;
-        self.detectors = detectors.after_write(deeds);
-        let fifo = self.fifo;
-        self.fifo = fifo.emptied_when(frames, deeds.empties);
+        self.channels = write_channels(self.channels, deeds);
+        self.detectors = self.detectors.after_write(deeds);
+        self.fifo = self.fifo.emptied_when(frames, deeds.empties);
         if deeds.resets {
             self.temperature = 0;
             self.came = false;
         }
-        CoreAnswered { answer, core: self }
+        CoreAnswered {
+            answer: judged.answer,
+            core: self,
+        }
     }
 
     // A burst read into a lent buffer, whose own length is the read length.
@@ -87,21 +98,12 @@ impl Core {
     {
         let answer = read_answer(address, buffer.len());
         if is_accepted(answer) {
-            let fifo = self.fifo;
             if address as usize == FRAMES_AT {
                 let axes = axes_of(regs[CONTROL_AT]);
-                self.fifo = fifo.readout(frames, Device::DEPTH, axes, buffer);
+                self.fifo = self.fifo.readout(frames, Device::DEPTH, axes, buffer);
             } else {
-                let detectors = self.detectors;
-                let channels = self.channels;
-                let inside = Inside {
-                    temperature: self.temperature,
-                    came: self.came,
-                    fifo,
-                    alarms: detectors.alarms(),
-                };
                 let locks = !bit(regs[SHADOW_AT], 6);
-                self.channels = burst(channels, locks, inside, regs, address, buffer);
+                self.channels = burst(self.channels, locks, self.inside(), regs, address, buffer);
             }
         }
         CoreAnswered { answer, core: self }
@@ -127,15 +129,12 @@ impl Core {
             let control = regs[CONTROL_AT];
             let axes = axes_of(control);
             let mode = mode_of(control);
-            let channels = self.channels;
-            self.channels = channels.sample(codes);
+            self.channels = self.channels.sample(codes);
             self.temperature = temperature;
             self.came = true;
             let frame = frame_of(axes, codes);
-            let fifo = self.fifo;
-            self.fifo = fifo.push(frames, Device::DEPTH, mode, axes, frame);
-            let detectors = self.detectors;
-            self.detectors = detectors.sample(regs, stored.x, stored.y, stored.z);
+            self.fifo = self.fifo.push(frames, Device::DEPTH, mode, axes, frame);
+            self.detectors = self.detectors.sample(regs, stored.x, stored.y, stored.z);
         }
         CoreAnswered { answer, core: self }
     }
@@ -147,7 +146,7 @@ impl Core {
     {
         self.came = false;
         CoreAnswered {
-            answer: Answer::Done,
+            answer: Ok(()),
             core: self,
         }
     }
@@ -157,10 +156,9 @@ impl Core {
     pub fn clock(mut self, microseconds: u32) -> CoreAnswered
         ensures { (regs frames : List ℕ) → answered_whole result regs frames ≡ clock_of (whole self regs frames) microseconds }
     {
-        let detectors = self.detectors;
-        self.detectors = detectors.clock(microseconds);
+        self.detectors = self.detectors.clock(microseconds);
         CoreAnswered {
-            answer: Answer::Done,
+            answer: Ok(()),
             core: self,
         }
     }
@@ -170,15 +168,7 @@ impl Core {
     pub fn pins(self, regs: &[u8; 64]) -> Pins
         ensures { (frames : List ℕ) → result ≡ pins_of (whole self regs.now frames) }
     {
-        let fifo = self.fifo;
-        let detectors = self.detectors;
-        let inside = Inside {
-            temperature: self.temperature,
-            came: self.came,
-            fifo,
-            alarms: detectors.alarms(),
-        };
-        let statuses = statuses_in(regs, inside);
+        let statuses = statuses_in(regs, self.inside());
         Pins {
             int1: pin_level(Pin::Int1, statuses, regs),
             int2: pin_level(Pin::Int2, statuses, regs),
@@ -189,8 +179,7 @@ impl Core {
     pub fn held(self) -> usize
         ensures { (regs frames : List ℕ) → result ≡ held_in (whole self regs frames) }
     {
-        let fifo = self.fifo;
-        fifo.count(Device::DEPTH)
+        self.fifo.count(Device::DEPTH)
     }
 }
 
@@ -220,15 +209,12 @@ impl Device {
     pub fn core(self) -> Core
         ensures { result ≡ core_of self }
     {
-        let channels = self.channels;
-        let fifo = self.fifo;
-        let detectors = self.detectors;
         Core {
-            channels,
+            channels: self.channels,
             temperature: self.temperature,
             came: self.came,
-            fifo,
-            detectors,
+            fifo: self.fifo,
+            detectors: self.detectors,
         }
     }
 
@@ -250,17 +236,14 @@ impl Device {
     pub fn of_parts(core: Core, regs: [u8; 64], frames: [u8; ROOM]) -> Self
         ensures { result ≡ whole core regs frames }
     {
-        let channels = core.channels;
-        let fifo = core.fifo;
-        let detectors = core.detectors;
         Device {
             regs,
-            channels,
+            channels: core.channels,
             temperature: core.temperature,
             came: core.came,
             frames,
-            fifo,
-            detectors,
+            fifo: core.fifo,
+            detectors: core.detectors,
         }
     }
 }

@@ -41,12 +41,10 @@ pub fn burst(
 {
     let first = address as usize;
     let mut now = channels;
-    let mut i: usize = 0;
-    while i < buffer.len() {
+    for (i, byte) in buffer.iter_mut().enumerate() {
         let at = first + i;
-        buffer[i] = byte_from(now, inside, regs, at);
+        *byte = byte_from(now, inside, regs, at);
         now = now.after_read(locks, at);
-        i += 1;
     }
     now
 }

@@ -21,20 +21,14 @@ pub struct Inside {
 fn sources_of(regs: &[u8; 64], inside: Inside) -> Sources
     ensures { result ≡ sources_of regs.now inside }
 {
-    let fifo = inside.fifo;
-    let alarms = inside.alarms;
-    let low = alarms.low;
-    let high = alarms.high;
-    let motion = alarms.motion;
-    let slow = alarms.slow;
     Sources {
-        count: fifo.count(Device::DEPTH),
+        count: inside.fifo.count(Device::DEPTH),
         depth: depth_in(Device::DEPTH, mode_of(regs[CONTROL_AT])),
         came: inside.came,
-        fell: low.is_set(),
-        hit: high.is_set(),
-        moved: motion.is_set(),
-        slow: slow.is_set(),
+        fell: inside.alarms.low.is_set(),
+        hit: inside.alarms.high.is_set(),
+        moved: inside.alarms.motion.is_set(),
+        slow: inside.alarms.slow.is_set(),
     }
 }
 
@@ -49,17 +43,13 @@ pub fn statuses_in(regs: &[u8; 64], inside: Inside) -> Statuses
 pub fn shown_byte(inside: Inside, regs: &[u8; 64], at: usize) -> u8
     ensures { result ≡ shown_byte inside regs.now at }
 {
-    let fifo = inside.fifo;
-    let alarms = inside.alarms;
-    let high = alarms.high;
-    let motion = alarms.motion;
     match at {
         0x08 => inside.temperature,
         0x09 => detector_byte(statuses_in(regs, inside)),
         0x0A => data_byte(statuses_in(regs, inside)),
-        0x0B => motion.marks(),
-        0x0C => high.marks(),
-        0x0E => fifo.status(Device::DEPTH),
+        0x0B => inside.alarms.motion.marks(),
+        0x0C => inside.alarms.high.marks(),
+        0x0E => inside.fifo.status(Device::DEPTH),
         _ => { if at < 64 { regs[at] } else { 0 } }
     }
 }

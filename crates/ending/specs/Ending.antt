@@ -1,6 +1,6 @@
 -- A program's status, as it is written, and the record up to which its text is whole.
 use Rattle.std.specs.Prelude.{ℕ, ◌+◌, ◌%◌}
-use Rattle.jobs.specs.Job.{record_count}
+use Rattle.jobs.specs.Follower.{Following}
 use Rattle.stream.specs.declared.Ended.{Ended}
 
 -- its digit in ASCII
@@ -11,6 +11,6 @@ digit_of status = (48 + status) % 256
 abbrev pub misused : ℕ
 misused = 2
 
--- the record up to which the text is whole: so many came to the job that the pump handed back
-abbrev pub whole_up_to : Ended → ℕ
-whole_up_to ended = record_count ended.task ended.job
+-- the record up to which the text is whole: so many came to the follower that the pump handed back
+abbrev pub whole_up_to : {S : Type 0} → Following S → Ended S → ℕ
+whole_up_to following ended = following.record_count ended.follower

@@ -6,6 +6,7 @@ ghost use Rattle.std.specs.Prelude.{◌≡◌};
 ghost use Rattle.stream.specs.Pump.{status_of};
 ghost use Rattle.ending.specs.Ending.{digit_of, misused, whole_up_to};
 
+use jobs::Follower;
 use std::io::Write;
 use std::rt::Files;
 use stream::{Ended, How, status_of};
@@ -50,8 +51,14 @@ fn say<E: Write>(errors: &mut E, bytes: &[u8]) {
 }
 
 // What failed, and the record up to which the text is whole.
-fn tell_failed<E: Write>(errors: &mut E, program: &[u8], what: &[u8], ended: Ended, whole: u64)
-    requires { whole ≡ whole_up_to ended }
+fn tell_failed<E: Write, F: Follower>(
+    errors: &mut E,
+    program: &[u8],
+    what: &[u8],
+    ended: Ended<F>,
+    whole: u64,
+)
+    requires { whole ≡ whole_up_to F.following ended }
 {
     say(&mut *errors, program);
     say(&mut *errors, b": ");
@@ -61,11 +68,14 @@ fn tell_failed<E: Write>(errors: &mut E, program: &[u8], what: &[u8], ended: End
 }
 
 // The end of a program, by its name, behind its pump.
-pub fn tell_end<R: Files, E: Write>(rt: &R, errors: &mut E, program: &[u8], ended: Ended) {
+pub fn tell_end<R: Files, E: Write, F: Follower>(
+    rt: &R,
+    errors: &mut E,
+    program: &[u8],
+    ended: Ended<F>,
+) {
     let how = ended.how;
-    let task = ended.task;
-    let job = ended.job;
-    let whole = job.records(task);
+    let whole = ended.follower.record_count();
     match how {
         How::On => tell_failed(errors, program, b"the input is too long", ended, whole),
         How::Stopped(_) => {}

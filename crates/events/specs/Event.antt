@@ -1,9 +1,8 @@
 -- 01, "What the twin covers": the events, and what happens at one.
 use Rattle.std.specs.Prelude.{ℕ, List, [], ℤ}
 use Rattle.laws.specs.Choice.{pick}
-use Rattle.registers.specs.Answers.{number, accepted}
+use Rattle.registers.specs.Answers.{done, number, accepted}
 use Rattle.registers.specs.Refused.{read_answer}
-use Rattle.registers.specs.declared.Answer.TheVariants.{Done}
 use Rattle.device.specs.Device as device
 use Rattle.device.specs.Write.{write_of}
 use Rattle.device.specs.Read.{read_of, burst_bytes, buffer_after}
@@ -28,7 +27,7 @@ pub data Event : Type 0 where
 
 -- an event, as the device's contracts have it
 abbrev pub happens : Device → Event → Answered
-happens d power_up = record { answer = Done; device = device.power_up }
+happens d power_up = record { answer = done; device = device.power_up }
 happens d (write a byte) = write_of d a byte
 happens d (read a n) = read_of d a n
 happens d (sample x y z temperature) = sample_of d x y z temperature

@@ -3,10 +3,18 @@
 use mathlib.Core.Path.{refl}
 use Rattle.laws.specs.Outcome.{Settled}
 use Rattle.laws.proofs.Outcome.{settles, meet}
+use Rattle.gathering.specs.contracts.LeftOutFromTooLarge.from as from-too-large
+use Rattle.gathering.specs.contracts.LeftOutFromNoSheet.from as from-no-sheet
 use Rattle.gathering.specs.contracts.with_log as with-log
 use Rattle.gathering.specs.contracts.with_sheet as with-sheet
 use Rattle.gathering.specs.contracts.worse as worse
 use Rattle.gathering.specs.contracts.status_of as status-of
+
+pub from-too-large-settled : Settled from-too-large.ended (λ M 𝓤. from-too-large.clauses) (λ M 𝓤. from-too-large.spec)
+from-too-large-settled = settles (λ κs a r r' s s' p q. (meet p q, refl))
+
+pub from-no-sheet-settled : Settled from-no-sheet.ended (λ M 𝓤. from-no-sheet.clauses) (λ M 𝓤. from-no-sheet.spec)
+from-no-sheet-settled = settles (λ κs a r r' s s' p q. (meet p q, refl))
 
 pub with-log-settled : Settled with-log.ended (λ M 𝓤. with-log.clauses) (λ M 𝓤. with-log.spec)
 with-log-settled = settles (λ κs a r r' s s' p q. (meet p q, refl))

@@ -3,38 +3,38 @@ use Rattle.std.specs.Prelude.{ℕ, List, eqb, ltb, Result, Ok, Err}
 use Rattle.laws.specs.Choice.{pick}
 use Rattle.sheets.specs.Sheets.{month_joined}
 use Rattle.sheets.specs.declared.Month.{Month}
-use Rattle.sheets.specs.declared.MonthJoined.{MonthJoined}
+use Rattle.sheets.specs.declared.TooLarge as refusal
 use Rattle.sheetfile.specs.Reader.{decode}
-use Rattle.sheetfile.specs.declared.NoSheet as refusal
-use Rattle.sheeting.specs.Sheeting.{month_with}
-use Rattle.jobs.specs.Job.{sheet_in}
-use Rattle.jobs.specs.declared.Job.{Job}
+use Rattle.sheetfile.specs.declared.NoSheet as unread
+use Rattle.sheeting.specs.Sheeting.{sheet_of, month_with}
+use Rattle.sheeting.specs.declared.Sheeting.{Sheeting}
 use Rattle.stream.specs.declared.Ended.{Ended}
 use Rattle.stream.specs.declared.How.{How}
 use Rattle.stream.specs.declared.How.TheVariants as how
-use Rattle.gathering.specs.declared.Added.{Added}
-use Rattle.gathering.specs.declared.Added.TheVariants.{In, TooLarge, NotRead, NoSheet}
+use Rattle.gathering.specs.declared.LeftOut.{LeftOut}
+use Rattle.gathering.specs.declared.LeftOut.TheVariants.{TooLarge, NotRead, NoSheet}
 
 -- "15 when a total would not fit, the sheet unchanged": then it is left out
-abbrev pub added_of : MonthJoined → Added
-added_of j = pick j.fits (In j.month) TooLarge
+abbrev pub added_of : Result Month refusal.TooLarge → Result Month LeftOut
+added_of (Ok month) = Ok month
+added_of (Err e) = Err TooLarge
 
--- a log whose pump ended so, with this job: up to where it stops, a log is in the month, by the number of its refusal; where it cannot be read, it is not
-abbrev pub job_added : Month → How → Job → Added
-job_added m how.On j = NotRead
-job_added m (how.Stopped refusal) j = added_of (month_with m (sheet_in j) refusal)
-job_added m how.NotRead j = NotRead
-job_added m how.NotWritten j = NotRead
+-- a log whose pump ended so, with this follower: up to where it stops, a log is in the month, by the number of its refusal; where it cannot be read, it is not
+abbrev pub job_added : Month → How → Sheeting → Result Month LeftOut
+job_added m how.On s = Err NotRead
+job_added m (how.Stopped refusal) s = added_of (month_with m (sheet_of s) refusal)
+job_added m how.NotRead s = Err NotRead
+job_added m how.NotWritten s = Err NotRead
 
-unfoldable pub log_added : Month → Ended → Added
-log_added m ended = job_added m ended.how ended.job
+unfoldable pub log_added : Month → Ended Sheeting → Result Month LeftOut
+log_added m ended = job_added m ended.how ended.follower
 
 -- "what is no sheet is refused"
-abbrev pub read_added : Month → Result Month refusal.NoSheet → Added
+abbrev pub read_added : Month → Result Month unread.NoSheet → Result Month LeftOut
 read_added m (Ok more) = added_of (month_joined m more)
-read_added m (Err why) = NoSheet
+read_added m (Err e) = Err NoSheet
 
-unfoldable pub sheet_added : Month → List ℕ → Added
+unfoldable pub sheet_added : Month → List ℕ → Result Month LeftOut
 sheet_added m bytes = read_added m (decode bytes)
 
 -- ---- statuses: 2 goes before 1, 1 before 3, and 3 before 0

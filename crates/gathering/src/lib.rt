@@ -2,57 +2,56 @@
 #![tactic(auto)]
 
 ghost use Rattle.std.specs.Prelude.{◌≡◌};
-ghost use Rattle.gathering.specs.Gathering.{added_of, log_added, read_added, sheet_added, rank_of, worse_of, month_status};
+ghost use Rattle.gathering.specs.Gathering.{log_added, sheet_added, rank_of, worse_of, month_status};
+ghost use Rattle.gathering.specs.declared.LeftOut.TheVariants as left;
 
 use sheetfile::{NoSheet, read_month};
-use sheeting::month_with;
-use sheets::{Month, MonthJoined};
+use sheeting::{Sheeting, month_with};
+use sheets::{Month, TooLarge};
 use stream::{Ended, How};
 
-// A month with one log or one sheet more; or why it is left out: a total would not fit, it could not be read, or it is no sheet.
-#[derive(Clone, Copy)]
-pub enum Added {
-    In(Month),
+// Why a log or a sheet is left out: a total would not fit, it could not be read, or it is no sheet. The month stays with the caller, as it was.
+#[derive(Clone, Copy, Debug, PartialEq, Eq)]
+pub enum LeftOut {
     TooLarge,
     NotRead,
     NoSheet,
 }
 
-fn added_of(joined: MonthJoined) -> Added
-    ensures { result ≡ added_of joined }
-{
-    if joined.fits {
-        let month = joined.month;
-        return Added::In(month);
+impl From<TooLarge> for LeftOut {
+    ghost from_gives = { λ _ why. why ≡ left.TooLarge };
+
+    fn from(_refusal: TooLarge) -> LeftOut {
+        LeftOut::TooLarge
     }
-    Added::TooLarge
+}
+
+impl From<NoSheet> for LeftOut {
+    ghost from_gives = { λ _ why. why ≡ left.NoSheet };
+
+    fn from(_refusal: NoSheet) -> LeftOut {
+        LeftOut::NoSheet
+    }
 }
 
 // With the log of a pump that came to its end so: where it was read as far as it goes, with the sheet of what came.
 #[tactic(auto, unfolding(crate::specs::Gathering::log_added))]
-pub fn with_log(month: Month, ended: Ended) -> Added
+pub fn with_log(month: Month, ended: Ended<Sheeting>) -> Result<Month, LeftOut>
     ensures { result ≡ log_added month ended }
 {
-    let how = ended.how;
-    let job = ended.job;
-    match how {
-        How::On => Added::NotRead,
-        How::Stopped(refusal) => added_of(month_with(month, job.sheet(), refusal)),
-        How::NotRead => Added::NotRead,
-        How::NotWritten => Added::NotRead,
+    match ended.how {
+        How::Stopped(refusal) => Ok(month_with(month, ended.follower.sheet(), refusal)?),
+        How::On | How::NotRead | How::NotWritten => Err(LeftOut::NotRead),
     }
 }
 
 // With the sheet that bytes are.
 #[tactic(auto, unfolding(crate::specs::Gathering::sheet_added))]
-pub fn with_sheet(month: Month, bytes: &[u8]) -> Added
+pub fn with_sheet(month: Month, bytes: &[u8]) -> Result<Month, LeftOut>
     ensures { result ≡ sheet_added month bytes.now }
 {
-    let read = read_month(bytes);
-    match read {
-        Ok(more) => added_of(month.joined(more)),
-        Err(NoSheet) => Added::NoSheet,
-    }
+    let more = read_month(bytes)?;
+    Ok(month.joined(more)?)
 }
 
 // ---- statuses

@@ -1,1 +1,1 @@
-pub mod Job
+pub mod Follower

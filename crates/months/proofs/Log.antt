@@ -8,13 +8,13 @@ use mathlib.Core.Path.{◌≡◌, refl, sym, ap, ◌∙◌}
 use native.Mathlib.Omega.{arith}
 use lib.Dec.{eqb}
 use lib.IntN.{ℤ}
+use Rattle.std.specs.Prelude.{Result, Ok, Err}
 use Rattle.laws.specs.Choice.{pick, both}
 use Rattle.laws.proofs.Finite.{left, right}
 use Rattle.codes.specs.declared.Range.{Range}
 use Rattle.codes.specs.declared.Range.TheVariants.{G2, G4, G8, G16, Reserved}
 use Rattle.counts.specs.Counts.{in_g}
-use Rattle.registers.specs.Answers.{accepted}
-use Rattle.registers.specs.declared.Answer.{Answer}
+use Rattle.registers.specs.Answers.{Answer, accepted}
 use Rattle.device.specs.Sample.{sample_of, sample_answer}
 use Rattle.device.specs.declared.Device.{Device}
 use Rattle.device.specs.Show.{range_in, stored_in}
@@ -29,8 +29,10 @@ use Rattle.ranges.proofs.Ranges.{range-in-force, range-some}
 use Rattle.sheets.specs.Sheets.{count_fits, sum_fits, axes_over, axes_fit, ranges_fit, count_joined, axes_joined}
 use Rattle.sheets.specs.declared.ByAxis.{ByAxis}
 use Rattle.sheets.specs.declared.ByRange.{ByRange}
-use Rattle.tally.specs.Tally.{no_sums, one_sample, ranges_sampled, sums_clocked, sums_sampled}
+use Rattle.sheets.specs.declared.TooLarge.{TooLarge}
+use Rattle.tally.specs.Tally.{no_sums, one_sample, with_row, going_on, ranges_sampled, sums_clocked, sums_sampled}
 use Rattle.tally.specs.declared.Sums.{Sums}
+use Rattle.tally.specs.declared.Totals.{Totals}
 use Rattle.sheeting.specs.Sheeting.{sums_after, sums_with_sample}
 use Rattle.months.specs.Histories.{counts_at, clock_in, tally_of, axes_of, sheet_of}
 
@@ -42,8 +44,14 @@ stepped_sums (e ∷ es) = sums_after (stepped_sums es) e (happens (after es) e).
 abbrev pub ranges_in : List Event → ByRange
 ranges_in es = (sheet_of es).ranges
 
+abbrev pub exact_totals : List Event → Totals
+exact_totals es = record { clock = clock_in es; ranges = ranges_in es }
+
 abbrev pub exact_sums : List Event → Sums
-exact_sums es = record { fits = true; clock = clock_in es; ranges = ranges_in es }
+exact_sums es = record { so_far = Ok (exact_totals es) }
+
+abbrev passed : Result Totals TooLarge
+passed = Err (record {})
 
 abbrev pub sums_fit : List Event → Bool
 sums_fit es = both (count_fits (clock_in es)) (ranges_fit (ranges_in es))
@@ -53,10 +61,9 @@ unfoldable pub fits_along : List Event → Bool
 fits_along [] = true
 fits_along (e ∷ es) = both (fits_along es) (sums_fit (e ∷ es))
 
--- what one event more comes to: it fits exactly where the sums of the history do, and then it is those
+-- what one event more comes to: the sums of the history where they fit, and else none
 record Stepped (es : List Event) (e : Event) (s : Sums) : Type 0 where
-  fits-as : s.fits ≡ sums_fit (e ∷ es)
-  is : sums_fit (e ∷ es) ≡ true → s ≡ exact_sums (e ∷ es)
+  is : s.so_far ≡ pick (sums_fit (e ∷ es)) (Ok (exact_totals (e ∷ es))) passed
 
 -- ---- an event that brings no sample and no time
 axes-same : (es : List Event) (e : Event) → is_sample e ≡ false → (g : ℕ) → axes_of (λ g axis. counts_at g axis (e ∷ es)) g ≡ axes_of (λ g axis. counts_at g axis es) g
@@ -69,10 +76,8 @@ ranges-same es e none = λ i. record { g2 = axes-same es e none 2 i; g4 = axes-s
 quiet : (es : List Event) (e : Event) → is_sample e ≡ false → clock_in (e ∷ es) ≡ clock_in es → sums_fit es ≡ true → Stepped es e (exact_sums es)
 quiet es e none same fits =
     let r = ranges-same es e none in
-    record {
-      fits-as = sym ((λ i. both (count_fits (same i)) (ranges_fit (r i))) ∙ fits);
-      is = λ h. λ i. record { fits = true; clock = sym same i; ranges = sym r i };
-    }
+    let h : sums_fit (e ∷ es) ≡ true = (λ i. both (count_fits (same i)) (ranges_fit (r i))) ∙ fits in
+    record { is = rw h (λ i. Ok (record { clock = sym same i; ranges = sym r i })) }
 
 more-none : (n : ℕ) → n + 0 ≡ n
 more-none n = omega arith
@@ -83,18 +88,13 @@ unfolding clock_in sums_clocked count_joined
 clocked es us fits =
     let r = ranges-same es (clock us) refl in
     let in-range : ranges_fit (ranges_in es) ≡ true = right (count_fits (clock_in es)) (ranges_fit (ranges_in es)) fits in
-    record {
-      fits-as = go (count_fits (clock_in es + us)) r in-range;
-      is = λ h. came (left (count_fits (clock_in es + us)) (ranges_fit (ranges_in (clock us ∷ es))) h) r;
-    }
+    record { is = go (count_fits (clock_in es + us)) r (ap ranges_fit r ∙ in-range) }
   where
-    go : (t : Bool) → ranges_in (clock us ∷ es) ≡ ranges_in es → ranges_fit (ranges_in es) ≡ true → t ≡ both t (ranges_fit (ranges_in (clock us ∷ es)))
-    go true r f = sym (ap ranges_fit r ∙ f)
+    go : (t : Bool) → ranges_in (clock us ∷ es) ≡ ranges_in es → ranges_fit (ranges_in (clock us ∷ es)) ≡ true
+        → going_on (λ n. Ok (record { clock = n; ranges = ranges_in es })) (pick {A = Result ℕ TooLarge} t (Ok (clock_in es + us)) (Err (record {})))
+        ≡ pick (both t (ranges_fit (ranges_in (clock us ∷ es)))) (Ok (exact_totals (clock us ∷ es))) passed
+    go true r f = rw f (λ i. Ok (record { clock = clock_in es + us; ranges = sym r i }))
     go false r f = refl
-
-    came : count_fits (clock_in es + us) ≡ true → ranges_in (clock us ∷ es) ≡ ranges_in es
-        → ◌≡◌ {A = Sums} (record { fits = count_fits (clock_in es + us); clock = pick (count_fits (clock_in es + us)) (clock_in es + us) (clock_in es); ranges = ranges_in es }) (record { fits = true; clock = clock_in es + us; ranges = ranges_in (clock us ∷ es) })
-    came h r = rw h (λ i. record { fits = true; clock = clock_in es + us; ranges = sym r i })
 
 -- ---- an accepted sample
 module _ (es : List Event) (e : Event) (yes : is_sample e ≡ true) (still : clock_in (e ∷ es) ≡ clock_in es) (fits : sums_fit es ≡ true) where
@@ -142,6 +142,13 @@ module _ (es : List Event) (e : Event) (yes : is_sample e ≡ true) (still : clo
   and-true true = refl
   and-true false = refl
 
+  -- a joined row in its place, where it fits
+  made : (t : Bool) (joined : ByAxis) (placed : ByAxis → ByRange) → ranges_in (e ∷ es) ≡ placed joined → sums_fit (e ∷ es) ≡ t
+      → going_on (λ ranges. Ok (record { clock = clock_in es; ranges = ranges })) (going_on (λ row. Ok (placed row)) (pick {A = Result ByAxis TooLarge} t (Ok joined) (Err (record {}))))
+      ≡ pick (sums_fit (e ∷ es)) (Ok (exact_totals (e ∷ es))) passed
+  made true joined placed next same = rw same (λ i. Ok (record { clock = sym still i; ranges = sym next i }))
+  made false joined placed next same = rw same refl
+
   abbrev sampled_in : Range → Sums
   sampled_in r = let v = values_at es e in sums_sampled (exact_sums es) r v.x v.y v.z
 
@@ -150,28 +157,28 @@ module _ (es : List Event) (e : Event) (yes : is_sample e ≡ true) (still : clo
   at-2-g p =
       let next : ranges_in (e ∷ es) ≡ record { g2 = axes_over (row 2) one; g4 = row 4; g8 = row 8; g16 = row 16 } = λ i. record { g2 = row_next 2 2 p i; g4 = row_next 2 4 p i; g8 = row_next 2 8 p i; g16 = row_next 2 16 p i } in
       let same : sums_fit (e ∷ es) ≡ axes_fit (axes_over (row 2) one) = (λ i. both (count_fits (still i)) (ranges_fit (next i))) ∙ simp (clock-fits, fits-4, fits_8, fits_16, and-true) in
-      record { fits-as = sym same; is = λ h. let f = sym same ∙ h in rw f (λ i. record { fits = true; clock = sym still i; ranges = sym next i }) }
+      record { is = made (axes_fit (axes_over (row 2) one)) (axes_over (row 2) one) (λ j. with_row (ranges_in es) G2 j) next same }
 
   at-4-g : g_by (byte_by es 0x0F) ≡ 4 → Stepped es e (sampled_in G4)
   unfolding sums_sampled ranges_sampled axes_joined
   at-4-g p =
       let next : ranges_in (e ∷ es) ≡ record { g2 = row 2; g4 = axes_over (row 4) one; g8 = row 8; g16 = row 16 } = λ i. record { g2 = row_next 4 2 p i; g4 = row_next 4 4 p i; g8 = row_next 4 8 p i; g16 = row_next 4 16 p i } in
       let same : sums_fit (e ∷ es) ≡ axes_fit (axes_over (row 4) one) = (λ i. both (count_fits (still i)) (ranges_fit (next i))) ∙ simp (clock-fits, fits-2, fits_8, fits_16, and-true) in
-      record { fits-as = sym same; is = λ h. let f = sym same ∙ h in rw f (λ i. record { fits = true; clock = sym still i; ranges = sym next i }) }
+      record { is = made (axes_fit (axes_over (row 4) one)) (axes_over (row 4) one) (λ j. with_row (ranges_in es) G4 j) next same }
 
   at-8-g : g_by (byte_by es 0x0F) ≡ 8 → Stepped es e (sampled_in G8)
   unfolding sums_sampled ranges_sampled axes_joined
   at-8-g p =
       let next : ranges_in (e ∷ es) ≡ record { g2 = row 2; g4 = row 4; g8 = axes_over (row 8) one; g16 = row 16 } = λ i. record { g2 = row_next 8 2 p i; g4 = row_next 8 4 p i; g8 = row_next 8 8 p i; g16 = row_next 8 16 p i } in
       let same : sums_fit (e ∷ es) ≡ axes_fit (axes_over (row 8) one) = (λ i. both (count_fits (still i)) (ranges_fit (next i))) ∙ simp (clock-fits, fits-2, fits-4, fits_16, and-true) in
-      record { fits-as = sym same; is = λ h. let f = sym same ∙ h in rw f (λ i. record { fits = true; clock = sym still i; ranges = sym next i }) }
+      record { is = made (axes_fit (axes_over (row 8) one)) (axes_over (row 8) one) (λ j. with_row (ranges_in es) G8 j) next same }
 
   at-16-g : g_by (byte_by es 0x0F) ≡ 16 → Stepped es e (sampled_in G16)
   unfolding sums_sampled ranges_sampled axes_joined
   at-16-g p =
       let next : ranges_in (e ∷ es) ≡ record { g2 = row 2; g4 = row 4; g8 = row 8; g16 = axes_over (row 16) one } = λ i. record { g2 = row_next 16 2 p i; g4 = row_next 16 4 p i; g8 = row_next 16 8 p i; g16 = row_next 16 16 p i } in
       let same : sums_fit (e ∷ es) ≡ axes_fit (axes_over (row 16) one) = (λ i. both (count_fits (still i)) (ranges_fit (next i))) ∙ simp (clock-fits, fits-2, fits-4, fits_8, and-true) in
-      record { fits-as = sym same; is = λ h. let f = sym same ∙ h in rw f (λ i. record { fits = true; clock = sym still i; ranges = sym next i }) }
+      record { is = made (axes_fit (axes_over (row 16) one)) (axes_over (row 16) one) (λ j. with_row (ranges_in es) G16 j) next same }
 
   in-any : (r : Range) → in_g r ≡ g_by (byte_by es 0x0F) → in_g r ≢ 0 → Stepped es e (sampled_in r)
   in-any G2 p some = at-2-g (sym p)
@@ -232,14 +239,14 @@ along-fits [] h = none-fit
 along-fits (e ∷ es) h = right (fits_along es) (sums_fit (e ∷ es)) h
 
 -- once a total did not fit, it did not
-stays-wrong : (s : Sums) (e : Event) (a : Answer) (d : Device) → s.fits ≡ false → (sums_after s e a d).fits ≡ false
+stays-wrong : (s : Sums) (e : Event) (a : Answer) (d : Device) → s.so_far ≡ passed → (sums_after s e a d).so_far ≡ passed
 unfolding sums_clocked sums_sampled
 stays-wrong s power_up a d h = h
 stays-wrong s (write address byte) a d h = h
 stays-wrong s (read address n) a d h = h
 stays-wrong s (sample x y z temperature) a d h = go (accepted a)
   where
-    go : (t : Bool) → (pick t (let stored = stored_in d x y z in sums_sampled s (range_in d) stored.x stored.y stored.z) s).fits ≡ false
+    go : (t : Bool) → (pick t (let stored = stored_in d x y z in sums_sampled s (range_in d) stored.x stored.y stored.z) s).so_far ≡ passed
     go true = rw h
     go false = h
 stays-wrong s cycle a d h = h
@@ -247,7 +254,7 @@ stays-wrong s (clock us) a d h = rw h
 
 pub record Exactly (es : List Event) : Type 0 where
   pub right-ones : fits_along es ≡ true → stepped_sums es ≡ exact_sums es
-  pub wrong-ones : fits_along es ≡ false → (stepped_sums es).fits ≡ false
+  pub wrong-ones : fits_along es ≡ false → (stepped_sums es).so_far ≡ passed
 
 start-exact : no_sums ≡ exact_sums []
 unfolding clock_in counts_at tally_of
@@ -268,10 +275,14 @@ module _ (es : List Event) (e : Event) (before : Exactly es) where
   more-right : both (fits_along es) (sums_fit (e ∷ es)) ≡ true → more (stepped_sums es) ≡ exact_sums (e ∷ es)
   more-right h =
       let l = left (fits_along es) (sums_fit (e ∷ es)) h in
-      ap more (before.right-ones l) ∙ (step es e (along-fits es l)).is (right (fits_along es) (sums_fit (e ∷ es)) h)
+      let fit : sums_fit (e ∷ es) ≡ true = right (fits_along es) (sums_fit (e ∷ es)) h in
+      let is = rw fit at (step es e (along-fits es l)).is in
+      ap more (before.right-ones l) ∙ (λ i. record { so_far = is i })
 
-  more-wrong : (t : Bool) → fits_along es ≡ t → both (fits_along es) (sums_fit (e ∷ es)) ≡ false → (more (stepped_sums es)).fits ≡ false
-  more-wrong true l h = ap (λ (s : Sums). (more s).fits) (before.right-ones l) ∙ (step es e (along-fits es l)).fits-as ∙ (ap (λ (b : Bool). both b (sums_fit (e ∷ es))) (sym l) ∙ h)
+  more-wrong : (t : Bool) → fits_along es ≡ t → both (fits_along es) (sums_fit (e ∷ es)) ≡ false → (more (stepped_sums es)).so_far ≡ passed
+  more-wrong true l h =
+      let unfit : sums_fit (e ∷ es) ≡ false = ap (λ (b : Bool). both b (sums_fit (e ∷ es))) (sym l) ∙ h in
+      ap (λ (s : Sums). (more s).so_far) (before.right-ones l) ∙ rw unfit at (step es e (along-fits es l)).is
   more-wrong false l h = stays-wrong (stepped_sums es) e (happens (after es) e).answer (after (e ∷ es)) (before.wrong-ones l)
 
   exact-next : Exactly (e ∷ es)

@@ -7,17 +7,16 @@ use mathlib.Core.Path.{◌≡◌, refl, sym, ap, ◌∙◌, subst}
 use native.Mathlib.Omega.{arith}
 use lib.Dec.{eqb}
 use lib.ListN.{length}
+use Rattle.std.specs.Prelude.{Result, Ok, Err}
 use Rattle.laws.specs.Bits.{worth}
 use Rattle.laws.specs.Choice.{pick, both}
 use Rattle.laws.proofs.Finite.{left, right}
 use Rattle.benchlog.specs.Whole.{read_log}
-use Rattle.sheets.specs.Sheets.{empty_month, sheet_over, month_over, sheet_fits, count_fits, month_fits, month_joined, join_number}
+use Rattle.sheets.specs.Sheets.{empty_month, sheet_over, month_over, sheet_fits, count_fits, month_fits, month_joined, kept, join_number}
 use Rattle.sheets.specs.declared.Month.{Month}
-use Rattle.sheets.specs.declared.MonthJoined.{MonthJoined}
 use Rattle.sheets.specs.declared.Sheet.{Sheet}
+use Rattle.sheets.specs.declared.TooLarge.{TooLarge}
 use Rattle.sheeting.specs.Sheeting.{log_sheet, month_with}
-use Rattle.sheeting.specs.declared.LogSheet.{LogSheet}
-use Rattle.sheeting.specs.declared.LogSheet.TheVariants.{Is, TooLarge}
 use Rattle.months.specs.Histories.{sheet_of, Passes}
 use Rattle.months.specs.Logs.{events_in, in_all, sheet_over_all, AllTick, SheetOfLog}
 use Rattle.months.specs.Months.{refused_once, in_month, with_log, MonthIn64, AddRule, month_of, AllShort, refused_in, MonthRule}
@@ -58,36 +57,36 @@ module _ (m : Month) (log : List ℕ) (room : length log < 2 ^ 64) where
   rule = sheet-of-log log room
 
   -- a log that has a sheet is joined, as what it is in a month
-  joined_as : (s : LogSheet) → log_sheet log ≡ s → (Passes (events_in log) → ⊥) → month_with m s (read_log log).stop ≡ month_joined m (in_month log)
-  joined_as (Is s) e none = λ i. month_joined m (record { sheet = rule.is s e i; logs = 1; refused = refused_as (read_log log).stop i })
-  joined_as TooLarge e none = absurd (none (rule.refused.0 e))
+  joined_as : (s : Result Sheet TooLarge) → log_sheet log ≡ s → (Passes (events_in log) → ⊥) → month_with m s (read_log log).stop ≡ month_joined m (in_month log)
+  joined_as (Ok s) e none = λ i. month_joined m (record { sheet = rule.is s e i; logs = 1; refused = refused_as (read_log log).stop i })
+  joined_as (Err t) e none = absurd (none (rule.refused.0 e))
 
-  left_out : Passes (events_in log) → with_log m log ≡ record { fits = false; month = m }
-  left_out p = ap (λ (s : LogSheet). month_with m s (read_log log).stop) (rule.refused.1 p)
+  left_out : Passes (events_in log) → with_log m log ≡ Err (record {})
+  left_out p = ap (λ (s : Result Sheet TooLarge). month_with m s (read_log log).stop) (rule.refused.1 p)
 
-  fits-then : MonthIn64 (month_over m (in_month log)) → month_joined m (in_month log) ≡ record { fits = true; month = month_over m (in_month log) }
+  fits-then : MonthIn64 (month_over m (in_month log)) → month_joined m (in_month log) ≡ Ok (month_over m (in_month log))
   unfolding month_joined
   fits-then h = rw (month-fits (month_over m (in_month log)) h)
 
-  stays_then : (MonthIn64 (month_over m (in_month log)) → ⊥) → month_joined m (in_month log) ≡ record { fits = false; month = m }
+  stays_then : (MonthIn64 (month_over m (in_month log)) → ⊥) → month_joined m (in_month log) ≡ Err (record {})
   unfolding month_joined
   stays_then h = rw (month-unfit (month_over m (in_month log)) h)
 
-  pub add_done : (Passes (events_in log) → ⊥) → MonthIn64 (month_over m (in_month log)) → with_log m log ≡ record { fits = true; month = month_over m (in_month log) }
+  pub add_done : (Passes (events_in log) → ⊥) → MonthIn64 (month_over m (in_month log)) → with_log m log ≡ Ok (month_over m (in_month log))
   add_done none h = joined_as (log_sheet log) refl none ∙ fits-then h
 
-  add-unfit : (s : LogSheet) → log_sheet log ≡ s → (MonthIn64 (month_over m (in_month log)) → ⊥) → month_with m s (read_log log).stop ≡ record { fits = false; month = m }
-  add-unfit (Is s) e h = (λ i. month_joined m (record { sheet = rule.is s e i; logs = 1; refused = refused_as (read_log log).stop i })) ∙ stays_then h
-  add-unfit TooLarge e h = refl
+  add-unfit : (s : Result Sheet TooLarge) → log_sheet log ≡ s → (MonthIn64 (month_over m (in_month log)) → ⊥) → month_with m s (read_log log).stop ≡ Err (record {})
+  add-unfit (Ok s) e h = (λ i. month_joined m (record { sheet = rule.is s e i; logs = 1; refused = refused_as (read_log log).stop i })) ∙ stays_then h
+  add-unfit (Err t) e h = refl
 
-  told : (j : MonthJoined) → with_log m log ≡ j → (join_number (with_log m log).fits ≡ join_number j.fits) × ((with_log m log).month ≡ j.month)
-  told j e = (ap (λ (x : MonthJoined). join_number x.fits) e, ap (λ (x : MonthJoined). x.month) e)
+  told : (j : Result Month TooLarge) → with_log m log ≡ j → (join_number (with_log m log) ≡ join_number j) × (kept m (with_log m log) ≡ kept m j)
+  told j e = (ap (λ (x : Result Month TooLarge). join_number x) e, ap (λ (x : Result Month TooLarge). kept m x) e)
 
   pub add-rule : AddRule m log
   add-rule = record {
-    done = λ none h. told (record { fits = true; month = month_over m (in_month log) }) (add_done none h);
-    passed = λ p. told (record { fits = false; month = m }) (left_out p);
-    unfit = λ h. told (record { fits = false; month = m }) (add-unfit (log_sheet log) refl h);
+    done = λ none h. told (Ok (month_over m (in_month log))) (add_done none h);
+    passed = λ p. told (Err (record {})) (left_out p);
+    unfit = λ h. told (Err (record {})) (add-unfit (log_sheet log) refl h);
   }
 
 -- ---- logs one after the other
@@ -132,7 +131,7 @@ month-is (log ∷ logs) short ticks events many =
     let alone : length (events_in log) < 2 ^ 32 = omega (arith, events) in
     let none = few.few-in-a-log (events_in log) ticks.0 alone in
     let fits : MonthIn64 (month_over (over logs) (in_month log)) = subst MonthIn64 (sym (month-more log logs)) (over-fits (log ∷ logs) ticks events many) in
-    ap (λ (m : Month). (with_log m log).month) rest ∙ ap (λ (j : MonthJoined). j.month) (add_done (over logs) log short.0 none fits) ∙ month-more log logs
+    ap (λ (m : Month). kept m (with_log m log)) rest ∙ ap (λ (j : Result Month TooLarge). kept (over logs) j) (add_done (over logs) log short.0 none fits) ∙ month-more log logs
 
 pub month-rule : MonthRule
 month-rule = record {

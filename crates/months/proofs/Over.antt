@@ -11,7 +11,8 @@ use Rattle.paper.specs.Samples.{Values}
 use Rattle.history.specs.History.{accelerometer}
 use Rattle.history.proofs.Conserve.{over-clears-here}
 use Rattle.demand3.specs.Whole.{sum, held_now, totals}
-use Rattle.sheets.specs.Sheets.{no_tallies, tally_over, empty_sheet, axes_over, ranges_over, sheet_over, sheet_joined}
+use Rattle.sheets.specs.Sheets.{no_tallies, tally_over, empty_sheet, axes_over, ranges_over, sheet_over}
+use Rattle.sheets.proofs.Joins.{sheet-whole}
 use Rattle.sheets.specs.declared.ByAxis.{ByAxis}
 use Rattle.sheets.specs.declared.ByRange.{ByRange}
 use Rattle.sheets.specs.declared.Sheet.{Sheet}
@@ -116,14 +117,10 @@ unfolding tally_of
 over_none = refl
 
 -- ---- any grouping
-fitting : (a b : Sheet) → (sheet_joined a b).fits ≡ true → (sheet_joined a b).sheet ≡ sheet_over a b
-unfolding sheet_joined
-fitting a b h = rw h
-
 grouped-as : {hs : List (List Event)} {s : Sheet} → Joins hs s → s ≡ sheet_over_all hs
 grouped-as none = over_none
 grouped-as (one es) = sym (single es)
-grouped-as (join {hs} {ks} {a} {b} p q fits) = fitting a b fits ∙ (λ i. sheet_over (grouped-as p i) (grouped-as q i)) ∙ joins hs ks
+grouped-as (join {hs} {ks} {a} {b} p q is) = (sheet-whole a b (sym is)).1 ∙ (λ i. sheet_over (grouped-as p i) (grouped-as q i)) ∙ joins hs ks
 
 pub grouped : (hs : List (List Event)) (s : Sheet) → Joins hs s → s ≡ sheet_over_all hs
 grouped hs s j = grouped-as j

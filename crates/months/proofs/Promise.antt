@@ -8,6 +8,7 @@ use native.Mathlib.Omega.{arith}
 use borrow.Author.Tests.{lt-ltb}
 use lib.Dec.{ltb}
 use lib.ListN.{length, drop}
+use Rattle.std.specs.Prelude.{Result, Ok, Err}
 use Rattle.laws.specs.Choice.{both}
 use Rattle.laws.proofs.Finite.{left, right}
 use Rattle.std.specs.Prelude.{Result, Ok, Err}
@@ -31,13 +32,12 @@ use Rattle.stretches.specs.Histories.{account_of}
 use Rattle.stretches.proofs.Histories.{account-first, account-next, bounded}
 use Rattle.sheets.specs.Sheets.{count_fits, sheet_fits}
 use Rattle.sheets.specs.declared.Sheet.{Sheet}
+use Rattle.sheets.specs.declared.TooLarge.{TooLarge}
 use Rattle.counts.specs.declared.Account.{Account}
 use Rattle.tally.specs.Tally.{no_sums, sums_clocked}
 use Rattle.tally.specs.declared.Sums.{Sums}
 use Rattle.sheeting.specs.Sheeting as code
 use Rattle.sheeting.specs.Sheeting.{start, at, sums_waited, next_on, sheeter, log_sheet}
-use Rattle.sheeting.specs.declared.LogSheet.{LogSheet}
-use Rattle.sheeting.specs.declared.LogSheet.TheVariants.{Is, TooLarge}
 use Rattle.sheeting.specs.declared.Sheeting.{Sheeting}
 use Rattle.months.specs.Histories.{sheet_of, Passes}
 use Rattle.months.specs.Logs.{events_in, SheetOfLog, SheetsOver}
@@ -97,11 +97,11 @@ module _ (rs : List Recorded) where
   abbrev es : List Event
   es = events_of rs
 
-  fitted : fits_along es ≡ true → code.sheet_of (state_of rs) ≡ Is (sheet_of es)
+  fitted : fits_along es ≡ true → code.sheet_of (state_of rs) ≡ Ok (sheet_of es)
   unfolding code.sheet_of
   fitted h = rw ((exactly es).right-ones h)
 
-  unfitted : fits_along es ≡ false → code.sheet_of (state_of rs) ≡ TooLarge
+  unfitted : fits_along es ≡ false → code.sheet_of (state_of rs) ≡ Err (record {})
   unfolding code.sheet_of
   unfitted h = rw ((exactly es).wrong-ones h)
 
@@ -187,10 +187,10 @@ history-few : (log : List ℕ) → length log < 2 ^ 64 → length (history_of lo
 unfolding history_of
 history-few log room = let h = length-behind [] (read_log log).items in let f = few-records log in omega (arith, h, f, room)
 
-not_is : {A : Type 0} {s : Sheet} → ◌≡◌ {A = LogSheet} TooLarge (Is s) → A
+not_is : {A : Type 0} {s : Sheet} → ◌≡◌ {A = Result Sheet TooLarge} (Err (record {})) (Ok s) → A
 not_is e = let z : ◌≡◌ {A = ℕ} 0 1 = cc in absurd (omega arith)
 
-is-injective : {s t : Sheet} → Is s ≡ Is t → s ≡ t
+is-injective : {s t : Sheet} → ◌≡◌ {A = Result Sheet TooLarge} (Ok s) (Ok t) → s ≡ t
 is-injective e = cc
 
 module _ (log : List ℕ) (room : length log < 2 ^ 64) where

@@ -6,26 +6,26 @@ use mathlib.Core.Logic.{◌⊎◌, inl, inr}
 use mathlib.Core.Path.{◌≡◌, refl, sym, ap, ◌∙◌, subst}
 use lib.IntN.{ℤ, ◌+ℤ◌, +ℤ_assoc, +ℤ_comm, +ℤ_idl}
 use lib.Signed.{lt_z, ◌≤ℤ◌, ≤ℤ_refl}
+use Rattle.std.specs.Prelude.{Option, Some, None}
 use Rattle.laws.specs.Choice.{pick}
-use Rattle.sheets.specs.Sheets.{no_tally, smaller, larger, extremes_over, tally_over}
+use Rattle.sheets.specs.Sheets.{no_tally, smaller, larger, from_to, extremes_over, tally_over}
 use Rattle.sheets.specs.declared.Extremes.{Extremes}
-use Rattle.sheets.specs.declared.Extremes.TheVariants.{NoSample, Of}
 use Rattle.sheets.specs.declared.Tally.{Tally}
 use Rattle.tally.specs.Tally.{one_tally}
 use Rattle.months.specs.Histories.{sum_of, ◌among◌, IsSmallest, IsLargest, Tallied, tally_of}
 use Rattle.months.proofs.Order.{≤ℤ-trans, smaller-swap, smaller-group, larger-swap, larger-group, smaller-first, smaller-second, larger-first, larger-second}
 
-extremes-swap : (a b : Extremes) → extremes_over a b ≡ extremes_over b a
-extremes-swap NoSample NoSample = refl
-extremes-swap NoSample (Of s l) = refl
-extremes-swap (Of s l) NoSample = refl
-extremes-swap (Of s l) (Of s' l') = λ i. Of (smaller-swap s s' i) (larger-swap l l' i)
+extremes-swap : (a b : Option Extremes) → extremes_over a b ≡ extremes_over b a
+extremes-swap None None = refl
+extremes-swap None (Some b) = refl
+extremes-swap (Some a) None = refl
+extremes-swap (Some a) (Some b) = λ i. from_to (smaller-swap a.smallest b.smallest i) (larger-swap a.largest b.largest i)
 
-extremes-group : (a b c : Extremes) → extremes_over (extremes_over a b) c ≡ extremes_over a (extremes_over b c)
-extremes-group NoSample b c = refl
-extremes-group (Of s l) NoSample c = refl
-extremes-group (Of s l) (Of s' l') NoSample = refl
-extremes-group (Of s l) (Of s' l') (Of s'' l'') = λ i. Of (smaller-group s s' s'' i) (larger-group l l' l'' i)
+extremes-group : (a b c : Option Extremes) → extremes_over (extremes_over a b) c ≡ extremes_over a (extremes_over b c)
+extremes-group None b c = refl
+extremes-group (Some a) None c = refl
+extremes-group (Some a) (Some b) None = refl
+extremes-group (Some a) (Some b) (Some c) = λ i. from_to (smaller-group a.smallest b.smallest c.smallest i) (larger-group a.largest b.largest c.largest i)
 
 pub tally-swap : (a b : Tally) → tally_over a b ≡ tally_over b a
 tally-swap a b = λ i. record { extremes = extremes-swap a.extremes b.extremes i; sum = +ℤ_comm a.sum b.sum i }
@@ -63,37 +63,37 @@ either-larger a b = go (lt_z a b)
     go false = inl refl
 
 -- extremes that are right of a list: none of an empty one
-Right : List ℤ → Extremes → Type 0
-Right l NoSample = l ≡ []
-Right l (Of s g) = IsSmallest l s × IsLargest l g
+Right : List ℤ → Option Extremes → Type 0
+Right l None = l ≡ []
+Right l (Some e) = IsSmallest l e.smallest × IsLargest l e.largest
 
-right-more : (v : ℤ) (l : List ℤ) (e : Extremes) → Right l e → Right (v ∷ l) (extremes_over e (Of v v))
+right-more : (v : ℤ) (l : List ℤ) (e : Option Extremes) → Right l e → Right (v ∷ l) (extremes_over e (from_to v v))
 unfolding Right
-right-more v l NoSample h =
+right-more v l None h =
     let only : (w : ℤ) → w among (v ∷ l) → w ≡ v = λ w. only_one w in
     ((inl refl, λ w m. rw (only w m) (≤ℤ_refl v)), (inl refl, λ w m. rw (only w m) (≤ℤ_refl v)))
   where
     only_one : (w : ℤ) → w among (v ∷ l) → w ≡ v
     only_one w (inl e) = e
     only_one w (inr m) = absurd (subst (λ (l : List ℤ). w among l) h m)
-right-more v l (Of s g) h =
-    ((in-smaller (either-smaller s v), λ w m. low w m), (in-larger (either-larger g v), λ w m. high w m))
+right-more v l (Some e) h =
+    ((in-smaller (either-smaller e.smallest v), λ w m. low w m), (in-larger (either-larger e.largest v), λ w m. high w m))
   where
-    in-smaller : ((smaller s v ≡ s) ⊎ (smaller s v ≡ v)) → smaller s v among (v ∷ l)
-    in-smaller (inl e) = inr (subst (λ (w : ℤ). w among l) (sym e) h.0.0)
-    in-smaller (inr e) = inl e
+    in-smaller : ((smaller e.smallest v ≡ e.smallest) ⊎ (smaller e.smallest v ≡ v)) → smaller e.smallest v among (v ∷ l)
+    in-smaller (inl is) = inr (subst (λ (w : ℤ). w among l) (sym is) h.0.0)
+    in-smaller (inr is) = inl is
 
-    in-larger : ((larger g v ≡ g) ⊎ (larger g v ≡ v)) → larger g v among (v ∷ l)
-    in-larger (inl e) = inr (subst (λ (w : ℤ). w among l) (sym e) h.1.0)
-    in-larger (inr e) = inl e
+    in-larger : ((larger e.largest v ≡ e.largest) ⊎ (larger e.largest v ≡ v)) → larger e.largest v among (v ∷ l)
+    in-larger (inl is) = inr (subst (λ (w : ℤ). w among l) (sym is) h.1.0)
+    in-larger (inr is) = inl is
 
-    low : (w : ℤ) → w among (v ∷ l) → smaller s v ≤ℤ w
-    low w (inl e) = rw e (smaller-second s v)
-    low w (inr m) = ≤ℤ-trans (smaller-first s v) (h.0.1 w m)
+    low : (w : ℤ) → w among (v ∷ l) → smaller e.smallest v ≤ℤ w
+    low w (inl is) = rw is (smaller-second e.smallest v)
+    low w (inr m) = ≤ℤ-trans (smaller-first e.smallest v) (h.0.1 w m)
 
-    high : (w : ℤ) → w among (v ∷ l) → w ≤ℤ larger g v
-    high w (inl e) = rw e (larger-second g v)
-    high w (inr m) = ≤ℤ-trans (h.1.1 w m) (larger-first g v)
+    high : (w : ℤ) → w among (v ∷ l) → w ≤ℤ larger e.largest v
+    high w (inl is) = rw is (larger-second e.largest v)
+    high w (inr m) = ≤ℤ-trans (h.1.1 w m) (larger-first e.largest v)
 
 right : (l : List ℤ) → Right l (tally_of l).extremes
 unfolding Right tally_of
@@ -105,17 +105,17 @@ unfolding tally_of
 sum_is [] = refl
 sum_is (v ∷ l) = +ℤ_comm (tally_of l).sum v ∙ ap (λ (z : ℤ). v +ℤ z) (sum_is l)
 
-none_in : (tally_of []).extremes ≡ NoSample
+none_in : (tally_of []).extremes ≡ None
 unfolding tally_of
 none_in = refl
 
 pub tallied : (l : List ℤ) → Tallied l (tally_of l)
 unfolding Right
 tallied l = record {
-  none = (λ e. subst (λ (x : Extremes). Right l x) e (right l), λ e. none_of l e);
-  some = λ s g e. subst (λ (x : Extremes). Right l x) e (right l);
+  none = (λ e. subst (λ (x : Option Extremes). Right l x) e (right l), λ e. none_of l e);
+  some = λ s g e. subst (λ (x : Option Extremes). Right l x) e (right l);
   sum = sum_is l;
 }
   where
-    none_of : (l : List ℤ) → l ≡ [] → (tally_of l).extremes ≡ NoSample
+    none_of : (l : List ℤ) → l ≡ [] → (tally_of l).extremes ≡ None
     none_of l e = ap (λ (m : List ℤ). (tally_of m).extremes) e ∙ none_in

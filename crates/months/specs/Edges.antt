@@ -3,8 +3,7 @@ use Rattle.std.specs.Prelude.{ℕ, ◌-◌, ◌^◌, List, [], ◌∷◌, ◌≡
 use Rattle.laws.specs.Table.{up_from}
 use Rattle.events.specs.Event.{Event, write, read, sample, clock}
 use Rattle.events.specs.Run.{script_onto}
-use Rattle.sheets.specs.Sheets.{no_tally, no_tallies, empty_sheet, sheet_joined, join_number}
-use Rattle.sheets.specs.declared.Extremes.TheVariants.{Of}
+use Rattle.sheets.specs.Sheets.{no_tally, no_tallies, from_to, empty_sheet, sheet_joined, kept, join_number}
 use Rattle.sheets.specs.declared.Sheet.{Sheet}
 use Rattle.sheets.specs.declared.Tally.{Tally}
 use Rattle.months.specs.Histories.{sheet_of}
@@ -18,7 +17,7 @@ x v = sample v (pos 0) (pos 0) 0
 
 -- smallest, largest, sum
 abbrev tally : ℤ → ℤ → ℤ → Tally
-tally smallest largest sum = record { extremes = Of smallest largest; sum = sum }
+tally smallest largest sum = record { extremes = from_to smallest largest; sum = sum }
 
 abbrev range : ℕ → Event
 range code = write 0x0F code
@@ -76,22 +75,22 @@ summed sum = record {
   lost = 0;
   cleared = 0;
   clock = 0;
-  ranges = record { g2 = no_tallies; g4 = no_tallies; g8 = record { x = record { extremes = Of (pos 0) (pos 0); sum = sum }; y = no_tally; z = no_tally }; g16 = no_tallies };
+  ranges = record { g2 = no_tallies; g4 = no_tallies; g8 = record { x = record { extremes = from_to (pos 0) (pos 0); sum = sum }; y = no_tally; z = no_tally }; g16 = no_tallies };
 }
 
 abbrev joined_to : Sheet → Sheet → ℕ
-joined_to a b = join_number (sheet_joined a b).fits
+joined_to a b = join_number (sheet_joined a b)
 
 pub record JoinEdges : Type 0 where
-  -- 2 ^ 64 - 1, and one more: the first is given back
+  -- 2 ^ 64 - 1, and one more: the first is kept
   pub most-clock : joined_to (clocked (2 ^ 64 - 2)) (clocked 1) ≡ 0
   pub clock-passes : joined_to (clocked (2 ^ 64 - 2)) (clocked 2) ≡ 15
-  pub clock-stays : (sheet_joined (clocked (2 ^ 64 - 2)) (clocked 2)).sheet ≡ clocked (2 ^ 64 - 2)
+  pub clock-stays : kept (clocked (2 ^ 64 - 2)) (sheet_joined (clocked (2 ^ 64 - 2)) (clocked 2)) ≡ clocked (2 ^ 64 - 2)
   -- 2 ^ 63 - 1, and one more; -2 ^ 63, and one less
   pub most-sum : joined_to (summed (pos (2 ^ 63 - 2))) (summed (pos 1)) ≡ 0
   pub sum-passes : joined_to (summed (pos (2 ^ 63 - 2))) (summed (pos 2)) ≡ 15
   pub least-sum : joined_to (summed (negsuc (2 ^ 63 - 2))) (summed (negsuc 0)) ≡ 0
   pub sum-passes-below : joined_to (summed (negsuc (2 ^ 63 - 2))) (summed (negsuc 1)) ≡ 15
-  pub sum-stays : (sheet_joined (summed (negsuc (2 ^ 63 - 2))) (summed (negsuc 1))).sheet ≡ summed (negsuc (2 ^ 63 - 2))
+  pub sum-stays : kept (summed (negsuc (2 ^ 63 - 2))) (sheet_joined (summed (negsuc (2 ^ 63 - 2))) (summed (negsuc 1))) ≡ summed (negsuc (2 ^ 63 - 2))
   -- from one end to the other nothing passes
   pub across : joined_to (summed (negsuc (2 ^ 63 - 1))) (summed (pos (2 ^ 63 - 1))) ≡ 0

@@ -1,5 +1,5 @@
 -- Q-8: what the histories say of a log in numbers, from its events alone. Numbers have no bounds here. In a history the latest event stands first.
-use Rattle.std.specs.Prelude.{ℕ, ◌+◌, List, [], ◌∷◌, ◌++◌, ◌⊎◌, ◌↔◌, ◌≡◌, eqb, ℤ, pos, ◌+ℤ◌, ◌≤ℤ◌}
+use Rattle.std.specs.Prelude.{ℕ, ◌+◌, List, [], ◌∷◌, ◌++◌, ◌⊎◌, ◌↔◌, ◌≡◌, None, eqb, ℤ, pos, ◌+ℤ◌, ◌≤ℤ◌}
 use Rattle.laws.specs.Choice.{pick, both}
 use Rattle.events.specs.Event.{Event}
 use Rattle.paper.specs.Ranges.{g_by}
@@ -7,9 +7,8 @@ use Rattle.paper.specs.Samples.{Values, is_sample, values_at, microseconds_at}
 use Rattle.paper.specs.Stored.{byte_by}
 use Rattle.history.specs.History.{accelerometer}
 use Rattle.demand3.specs.Whole.{held_now, totals}
-use Rattle.sheets.specs.Sheets.{no_tally, tally_over}
+use Rattle.sheets.specs.Sheets.{no_tally, from_to, tally_over}
 use Rattle.sheets.specs.declared.ByAxis.{ByAxis}
-use Rattle.sheets.specs.declared.Extremes.TheVariants.{NoSample, Of}
 use Rattle.sheets.specs.declared.Sheet.{Sheet}
 use Rattle.sheets.specs.declared.Tally.{Tally}
 use Rattle.tally.specs.Tally.{one_tally}
@@ -46,8 +45,8 @@ IsLargest l v = (v among l) × ((w : ℤ) → w among l → w ≤ℤ v)
 
 -- "smallest, largest (none where no sample came) and signed sum"
 pub record Tallied (l : List ℤ) (t : Tally) : Type 0 where
-  pub none : (t.extremes ≡ NoSample) ↔ (l ≡ [])
-  pub some : (smallest largest : ℤ) → t.extremes ≡ Of smallest largest → IsSmallest l smallest × IsLargest l largest
+  pub none : (t.extremes ≡ None) ↔ (l ≡ [])
+  pub some : (smallest largest : ℤ) → t.extremes ≡ from_to smallest largest → IsSmallest l smallest × IsLargest l largest
   pub sum : t.sum ≡ sum_of l
 
 -- ---- the sheet, by one sample at a time: what it says of the histories is said below

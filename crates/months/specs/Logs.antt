@@ -1,5 +1,5 @@
 -- Q-8: one log, and many. A log is its bytes; its events are those of the records up to where the replay stops.
-use Rattle.std.specs.Prelude.{ℕ, ◌+◌, ◌^◌, ◌<◌, true, List, [], ◌∷◌, ◌++◌, map, ◌↔◌, ◌≡◌, ℤ, length}
+use Rattle.std.specs.Prelude.{ℕ, ◌+◌, ◌^◌, ◌<◌, true, List, [], ◌∷◌, ◌++◌, map, ◌↔◌, ◌≡◌, Ok, Err, ℤ, length}
 use Rattle.events.specs.Event.{Event}
 use Rattle.paper.specs.Samples.{Values, microseconds_at}
 use Rattle.history.specs.History.{accelerometer}
@@ -8,7 +8,6 @@ use Rattle.recorded.specs.Recorded.{events_of, history_of}
 use Rattle.sheets.specs.Sheets.{empty_sheet, sheet_over, sheet_joined}
 use Rattle.sheets.specs.declared.Sheet.{Sheet}
 use Rattle.sheeting.specs.Sheeting.{log_sheet}
-use Rattle.sheeting.specs.declared.LogSheet.TheVariants.{Is, TooLarge}
 use Rattle.months.specs.Totals.{AllIn64}
 use Rattle.months.specs.Histories.{counts_at, clock_in, sheet_with, sheet_of, Says, SaysOf, Passes}
 
@@ -19,11 +18,11 @@ events_in log = events_of (history_of log)
 -- ---- one log
 pub record SheetOfLog (log : List ℕ) : Type 0 where
   -- a log that has a sheet has this one
-  pub is : (s : Sheet) → log_sheet log ≡ Is s → s ≡ sheet_of (events_in log)
+  pub is : (s : Sheet) → log_sheet log ≡ Ok s → s ≡ sheet_of (events_in log)
   -- and it says this of the events
   pub says : SaysOf (events_in log) (sheet_of (events_in log))
   -- 15 exactly where at some event a total would not fit
-  pub refused : (log_sheet log ≡ TooLarge) ↔ Passes (events_in log)
+  pub refused : (log_sheet log ≡ Err (record {})) ↔ Passes (events_in log)
 
 -- ---- many logs, by their histories
 -- a number of each, added up
@@ -54,7 +53,7 @@ sheet_over_all hs =
 pub data Joins : List (List Event) → Sheet → Type 0 where
   none : Joins [] empty_sheet
   one : (es : List Event) → Joins (es ∷ []) (sheet_of es)
-  join : {hs ks : List (List Event)} {a b : Sheet} → Joins hs a → Joins ks b → (sheet_joined a b).fits ≡ true → Joins (hs ++ ks) (sheet_joined a b).sheet
+  join : {hs ks : List (List Event)} {a b s : Sheet} → Joins hs a → Joins ks b → sheet_joined a b ≡ Ok s → Joins (hs ++ ks) s
 
 -- each clock has 32 bits, as a record of a log has it
 abbrev pub Ticks : List Event → Type 0

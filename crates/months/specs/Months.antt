@@ -1,10 +1,10 @@
 -- Q-8: a month: the sheet over logs, how many they are, and how many of them were refused. A log is added by what stops it, and by its sheet.
-use Rattle.std.specs.Prelude.{ℕ, ◌+◌, ◌^◌, ◌<◌, not, List, [], ◌∷◌, map, ◌≡◌, eqb, length}
+use Rattle.std.specs.Prelude.{ℕ, ◌+◌, ◌^◌, ◌<◌, not, List, [], ◌∷◌, map, ◌≡◌, Result, eqb, length}
 use Rattle.laws.specs.Bits.{worth}
 use Rattle.benchlog.specs.Whole.{read_log}
-use Rattle.sheets.specs.Sheets.{empty_month, month_over, join_number}
+use Rattle.sheets.specs.Sheets.{empty_month, month_over, kept, join_number}
 use Rattle.sheets.specs.declared.Month.{Month}
-use Rattle.sheets.specs.declared.MonthJoined.{MonthJoined}
+use Rattle.sheets.specs.declared.TooLarge.{TooLarge}
 use Rattle.sheeting.specs.Sheeting.{log_sheet, month_with}
 use Rattle.months.specs.Totals.{CountIn64, AllIn64}
 use Rattle.months.specs.Histories.{sheet_of, Passes}
@@ -19,7 +19,7 @@ abbrev pub in_month : List ℕ → Month
 in_month log = record { sheet = sheet_of (events_in log); logs = 1; refused = refused_once log }
 
 -- a month with a log more, as the code adds it
-abbrev pub with_log : Month → List ℕ → MonthJoined
+abbrev pub with_log : Month → List ℕ → Result Month TooLarge
 with_log m log = month_with m (log_sheet log) (read_log log).stop
 
 pub record MonthIn64 (m : Month) : Type 0 where
@@ -29,16 +29,16 @@ pub record MonthIn64 (m : Month) : Type 0 where
 
 -- one log more, both ways
 pub record AddRule (m : Month) (log : List ℕ) : Type 0 where
-  pub done : (Passes (events_in log) → ⊥) → MonthIn64 (month_over m (in_month log)) → (join_number (with_log m log).fits ≡ 0) × ((with_log m log).month ≡ month_over m (in_month log))
+  pub done : (Passes (events_in log) → ⊥) → MonthIn64 (month_over m (in_month log)) → (join_number (with_log m log) ≡ 0) × (kept m (with_log m log) ≡ month_over m (in_month log))
   -- "inside a log, at the event that would pass, so that log adds nothing and the month stays"
-  pub passed : Passes (events_in log) → (join_number (with_log m log).fits ≡ 15) × ((with_log m log).month ≡ m)
+  pub passed : Passes (events_in log) → (join_number (with_log m log) ≡ 15) × (kept m (with_log m log) ≡ m)
   -- "of a join, the first sheet"
-  pub unfit : (MonthIn64 (month_over m (in_month log)) → ⊥) → (join_number (with_log m log).fits ≡ 15) × ((with_log m log).month ≡ m)
+  pub unfit : (MonthIn64 (month_over m (in_month log)) → ⊥) → (join_number (with_log m log) ≡ 15) × (kept m (with_log m log) ≡ m)
 
 -- ---- logs one after the other, of which the latest stands first
 unfoldable pub month_of : List (List ℕ) → Month
 month_of [] = empty_month
-month_of (log ∷ logs) = (with_log (month_of logs) log).month
+month_of (log ∷ logs) = kept (month_of logs) (with_log (month_of logs) log)
 
 abbrev pub AllShort : List (List ℕ) → Type 0
 AllShort [] = Unit {0}

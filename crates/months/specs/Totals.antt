@@ -1,6 +1,6 @@
 -- Q-8: "All exact, in 64 bits"; "15 when a total would not fit, the sheet unchanged". In words of the numbers alone: no contract cites these.
 use Rattle.std.specs.Prelude.{ℕ, ◌-◌, ◌^◌, ◌<◌, ◌≡◌, ℤ, pos, neg_ℤ, ◌≤ℤ◌}
-use Rattle.sheets.specs.Sheets.{sheet_over, sheet_joined, join_number}
+use Rattle.sheets.specs.Sheets.{sheet_over, sheet_joined, kept, join_number}
 use Rattle.sheets.specs.declared.ByAxis.{ByAxis}
 use Rattle.sheets.specs.declared.Sheet.{Sheet}
 
@@ -33,6 +33,6 @@ pub record AllIn64 (s : Sheet) : Type 0 where
 -- ---- a join, both ways
 pub record JoinRule (a b : Sheet) : Type 0 where
   -- where all of the sum fits, it is the sum, and refused by no number
-  pub done : AllIn64 (sheet_over a b) → (join_number (sheet_joined a b).fits ≡ 0) × ((sheet_joined a b).sheet ≡ sheet_over a b)
-  -- "15 when a total would not fit, the sheet unchanged": the first sheet is given back
-  pub refused : (AllIn64 (sheet_over a b) → ⊥) → (join_number (sheet_joined a b).fits ≡ 15) × ((sheet_joined a b).sheet ≡ a)
+  pub done : AllIn64 (sheet_over a b) → (join_number (sheet_joined a b) ≡ 0) × (kept a (sheet_joined a b) ≡ sheet_over a b)
+  -- "15 when a total would not fit, the sheet unchanged": the first sheet is kept
+  pub refused : (AllIn64 (sheet_over a b) → ⊥) → (join_number (sheet_joined a b) ≡ 15) × (kept a (sheet_joined a b) ≡ a)

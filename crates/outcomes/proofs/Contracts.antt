@@ -29,13 +29,10 @@ use Rattle.benchlog.specs.declared.Entry.TheVariants as entry
 use Rattle.benchlog.specs.declared.Found.{Found}
 use Rattle.benchlog.specs.declared.Found.TheVariants as found
 use Rattle.follow.specs.Source.{records}
-use Rattle.follow.specs.Follow.{step_room, goes_on, halted, halts, step_as, step_of, as_sought, sought_of, halt_in, has_version, opened_as, opened_of}
-use Rattle.follow.specs.declared.Halt as halt
-use Rattle.follow.specs.declared.Next.{Next}
-use Rattle.follow.specs.declared.Next.TheVariants.{Go, Wait, Full, Stop}
-use Rattle.follow.specs.declared.Opened.{Opened}
-use Rattle.follow.specs.declared.Opened.TheVariants as opened
-use Rattle.follow.specs.declared.Sought.{Sought}
+use Rattle.std.specs.Prelude.{Result, Ok, Err}
+use Rattle.follow.specs.Follow.{step_room, step_as, step_where, step_of, as_sought, sought_of, has_version, opened_as, opened_where, opened_of}
+use Rattle.follow.specs.declared.Halt.{Halt}
+use Rattle.follow.specs.declared.Halt.TheVariants.{Wait, Full, Stop}
 use Rattle.follow.specs.contracts.open_log as open-log
 use Rattle.follow.specs.contracts.seek as seek
 use Rattle.benchlog.specs.contracts.Entry as record-type
@@ -167,61 +164,45 @@ pub write-entry-tabled : Promises write-entry.ended (λ M 𝓤. write-entry.clau
 write-entry-tabled = says (λ κs a r e p. rw (p.0, p.1, encode-spelled a.1.1.0) (demand1.record-room a.0.now a.1.0 a.1.1.0))
 
 -- ---- who follows a log: where it says that the log is at its end, the refusal is the number that is due there, 0 where nothing is refused
-abbrev is_stop : Next → Bool
-is_stop Go = false
-is_stop Wait = false
-is_stop Full = false
-is_stop Stop = true
-
--- why no step is made: Go where the records begin
-abbrev halt_on : Opened → halt.Halt
-halt_on (opened.At place) = halted Go 0
-halt_on (opened.Halt h) = h
-
-no_stop : {next : Next} {X : Type 0} → is_stop next ≡ false → next ≡ Stop → X
-no_stop isnt stop = no (sym isnt ∙ ap is_stop stop)
+abbrev pub where_stopped : {A : Type 0} → (ℕ → Type 0) → Result A Halt → Type 0
+where_stopped Due (Ok found) = Unit
+where_stopped Due (Err Wait) = Unit
+where_stopped Due (Err Full) = Unit
+where_stopped Due (Err (Stop refusal)) = Due refusal
 
 module _ (log : List ℕ) (at room : ℕ) (last : Bool) where
-  abbrev Sought-due : Sought → Type 0
-  Sought-due s = (halt_in s).next ≡ Stop → DueAtPlace (drop at log) (halt_in s).refusal
-
   abbrev here : List ℕ
   here = drop at log
 
-  sought-due : Sought-due (sought_of log at room last)
+  sought-due : where_stopped (DueAtPlace here) (sought_of log at room last)
   unfolding step_of
   sought-due = go (ltb room step_room) (either last (decided here)) (read_at here 0).found (((demand1.at_place here 0).exactly _).0 refl)
     where
       go : (t u : Bool) (f : Found) → DueAtPlace here (found_number f)
-          → let r = pick t Full (pick u Go Wait) in Sought-due (as_sought (pick (goes_on r) (step_as (look_of f (read_at here 0).next) at) (halts (halted r 0))))
-      go true u f due = no_stop refl
-      go false true (found.Record e) due = no_stop refl
-      go false true found.End due = λ _. due
-      go false true found.WrongRecord due = λ _. due
-      go false true found.Cut due = λ _. due
-      go false false f due = no_stop refl
+          → where_stopped (DueAtPlace here) (as_sought (step_where (pick t (Err Full) (pick u (Ok tt) (Err Wait))) (step_as (look_of f (read_at here 0).next) at)))
+      go true u f due = tt
+      go false true (found.Record e) due = tt
+      go false true found.End due = due
+      go false true found.WrongRecord due = due
+      go false true found.Cut due = due
+      go false false f due = tt
 
 module _ (begun : Bool) (log : List ℕ) (room : ℕ) (last : Bool) where
-  abbrev Opened-due : Opened → Type 0
-  Opened-due o = (halt_on o).next ≡ Stop → DueAtStart log (halt_on o).refusal
-
-  opened-due : Opened-due (opened_of records begun log room last)
+  opened-due : where_stopped (DueAtStart log) (opened_of records begun log room last)
   unfolding opened_of
   opened-due = go begun (ltb room step_room) (either last (has_version (length log))) (read_version log).begins (((demand1.at-start log).exactly _).0 refl)
     where
       go : (s t u : Bool) (b : Begins) → DueAtStart log (begins_number b)
-          → let r = pick t Full (pick u Go Wait) in Opened-due (pick s (opened.At 0) (pick (goes_on r) (opened_as b (read_version log).next) (opened.Halt (halted r 0))))
-      go true t u b due = no_stop refl
-      go false true u b due = no_stop refl
-      go false false true begins.Version due = no_stop refl
-      go false false true begins.WrongVersion due = λ _. due
-      go false false true begins.Empty due = λ _. due
-      go false false false b due = no_stop refl
+          → where_stopped (DueAtStart log) (pick s (Ok 0) (opened_where (pick t (Err Full) (pick u (Ok tt) (Err Wait))) (opened_as b (read_version log).next)))
+      go true t u b due = tt
+      go false true u b due = tt
+      go false false true begins.Version due = tt
+      go false false true begins.WrongVersion due = due
+      go false false true begins.Empty due = due
+      go false false false b due = tt
 
-pub open-log-stops : Promises open-log.ended (λ M 𝓤. open-log.clauses) (λ κs a r e. (halt_on r).next ≡ Stop → DueAtStart a.1.0.now (halt_on r).refusal)
-open-log-stops = says (λ κs a r e p.
-    subst (Opened-due a.0 a.1.0.now a.1.1.0 a.1.1.1.0) (sym p) (opened-due a.0 a.1.0.now a.1.1.0 a.1.1.1.0))
+pub open-log-stops : Promises open-log.ended (λ M 𝓤. open-log.clauses) (λ κs a r e. where_stopped (DueAtStart a.1.0.now) r)
+open-log-stops = says (λ κs a r e p. rw p (opened-due a.0 a.1.0.now a.1.1.0 a.1.1.1.0))
 
-pub seek-stops : Promises seek.ended (λ M 𝓤. seek.clauses) (λ κs a r e. (halt_in r).next ≡ Stop → DueAtPlace (drop a.1.0 a.0.now) (halt_in r).refusal)
-seek-stops = says (λ κs a r e p.
-    subst (Sought-due a.0.now a.1.0 a.1.1.0 a.1.1.1.0) (sym p) (sought-due a.0.now a.1.0 a.1.1.0 a.1.1.1.0))
+pub seek-stops : Promises seek.ended (λ M 𝓤. seek.clauses) (λ κs a r e. where_stopped (DueAtPlace (drop a.1.0 a.0.now)) r)
+seek-stops = says (λ κs a r e p. rw p (sought-due a.0.now a.1.0 a.1.1.0 a.1.1.1.0))

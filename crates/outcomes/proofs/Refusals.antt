@@ -21,11 +21,11 @@ use Rattle.codes.specs.Mode.{mode_of}
 use Rattle.codes.specs.Range.{range_of}
 use Rattle.channels.specs.Codes.{in_range}
 use Rattle.table.specs.Rows.{row_at, the_table}
-use Rattle.registers.specs.Answers.{number, accepted}
+use Rattle.std.specs.Prelude.{Err}
+use Rattle.registers.specs.Answers.{Answer, done, number, accepted}
 use Rattle.registers.specs.Deeds.{judgement}
 use Rattle.registers.specs.Refused.{reserved_code, not_modelled, lack_at, write_rows, read_rows, answer_at, write_answer, read_answer}
-use Rattle.registers.specs.declared.Answer.{Answer}
-use Rattle.registers.specs.declared.Answer.TheVariants.{Done, NoAddress, ReservedCode}
+use Rattle.registers.specs.declared.Refusal.TheVariants.{NoAddress, ReservedCode}
 use Rattle.registers.proofs.Answers.{zero-accepted, lack-any}
 use Rattle.device.specs.Write.{write_of}
 use Rattle.device.specs.Read.{read_of, buffer_after}
@@ -51,20 +51,20 @@ use Rattle.outcomes.proofs.Words.{Means, no, when, same_test, isnt, likewise, la
 
 -- ---- exactly when the rows say
 -- the rows of a write have different numbers, and none is 0, whichever is the register's
-rows_apart : (p q t : Bool) (a : ℕ) → apart number (row NoAddress p ∷ row ReservedCode q ∷ row (lack_at a) t ∷ []) ≡ true
-rows_apart p q t = lack-any (λ x. apart number (row NoAddress p ∷ row ReservedCode q ∷ row x t ∷ []) ≡ true) refl refl refl
+rows_apart : (p q t : Bool) (a : ℕ) → apart number (row (Err NoAddress) p ∷ row (Err ReservedCode) q ∷ row (Err (lack_at a)) t ∷ []) ≡ true
+rows_apart p q t = lack-any (λ x. apart number (row (Err NoAddress) p ∷ row (Err ReservedCode) q ∷ row (Err x) t ∷ []) ≡ true) refl refl refl
 
 pub write-exactly : (d : Device) (a byte n : ℕ) → eqb n (number (write_of d a byte).answer) ≡ due number (write_rows d.regs (row_at a) a byte) n
 unfolding write_of judgement answer_at
-write-exactly d a byte n = exact number Done refl (write_rows d.regs (row_at a) a byte) n (rows_apart (ltb frames_at a) (reserved_code d.regs a byte) (not_modelled d.regs (row_at a) a byte) a)
+write-exactly d a byte n = exact number done refl (write_rows d.regs (row_at a) a byte) n (rows_apart (ltb frames_at a) (reserved_code d.regs a byte) (not_modelled d.regs (row_at a) a byte) a)
 
 pub read-exactly : (d : Device) (a count n : ℕ) → eqb n (number (read_of d a count).answer) ≡ due number (read_rows a count) n
 unfolding read_of read_answer
-read-exactly d a count n = exact number Done refl (read_rows a count) n refl
+read-exactly d a count n = exact number done refl (read_rows a count) n refl
 
 pub sample-exactly : (d : Device) (x y z : ℤ) (t n : ℕ) → eqb n (number (sample_of d x y z t).answer) ≡ due number (sample_rows x y z) n
 unfolding sample_of sample_answer
-sample-exactly d x y z t n = exact number Done refl (sample_rows x y z) n refl
+sample-exactly d x y z t n = exact number done refl (sample_rows x y z) n refl
 
 pub cycle-done : (d : Device) → number (cycle_of d).answer ≡ 0
 unfolding cycle_of
@@ -100,7 +100,7 @@ module _ (d : Device) (a byte : ℕ) where
 
   -- whether what is lacking has the number n
   abbrev numbered : ℕ → Bool
-  numbered n = eqb n (number (lack_at a))
+  numbered n = eqb n (number (Err (lack_at a)))
 
   is-detector : ¬ AboveLast a → Means (both (numbered 11) lacking) (DetectorWrite a byte)
   is-detector h = same_test (detector-is d.regs a byte (within h))
@@ -120,7 +120,7 @@ module _ (d : Device) (a byte : ℕ) where
   third n w h = and (isnt (is-reserved h)) (λ _. likewise (last_row (numbered n) lacking) (w h))
 
   zero-free : numbered 0 ≡ false
-  zero-free = lack-any (λ x. eqb 0 (number x) ≡ false) refl refl refl a
+  zero-free = lack-any (λ x. eqb 0 (number (Err x)) ≡ false) refl refl refl a
 
   pub write-0 : (number (write_of d a byte).answer ≡ 0) ↔ (¬ AboveLast a × (¬ ReservedWrite (reg d) a byte × ¬ LackingWrite a byte))
   write-0 = when (write-exactly d a byte 0) (and (isnt (less 0x3F a)) (λ h. and (isnt (is-reserved h)) (λ _. rw zero-free (last (isnt (is-lacking h))))))
@@ -213,10 +213,10 @@ event-answers : (d : Device) (e : Event) → is_in (answers_to e) (gives d e).nu
 unfolding write_of judgement answer_at read_of read_answer sample_of sample_answer cycle_of clock_of
 event-answers d power_up = refl
 event-answers d (write a byte) =
-    let lack : is_in (answers_to (write a byte)) (number (lack_at a)) ≡ true = lack-any (λ x. is_in (answers_to (write a byte)) (number x) ≡ true) refl refl refl a in
-    first-in number (answers_to (write a byte)) Done refl (write_rows d.regs (row_at a) a byte) (rw lack)
-event-answers d (read a n) = first-in number (0 ∷ 1 ∷ 5 ∷ 6 ∷ []) Done refl (read_rows a n) refl
-event-answers d (sample x y z t) = first-in number (0 ∷ 4 ∷ []) Done refl (sample_rows x y z) refl
+    let lack : is_in (answers_to (write a byte)) (number (Err (lack_at a))) ≡ true = lack-any (λ x. is_in (answers_to (write a byte)) (number (Err x)) ≡ true) refl refl refl a in
+    first-in number (answers_to (write a byte)) done refl (write_rows d.regs (row_at a) a byte) (rw lack)
+event-answers d (read a n) = first-in number (0 ∷ 1 ∷ 5 ∷ 6 ∷ []) done refl (read_rows a n) refl
+event-answers d (sample x y z t) = first-in number (0 ∷ 4 ∷ []) done refl (sample_rows x y z) refl
 event-answers d cycle = refl
 event-answers d (clock us) = refl
 

@@ -4,7 +4,6 @@ use mathlib.Core.Path.{refl}
 use Rattle.laws.specs.Outcome.{Settled}
 use Rattle.follow.specs.contracts.open_log as open-log
 use Rattle.follow.specs.contracts.seek as seek
-use Rattle.follow.specs.contracts.halt_of as halt-of
 use Rattle.outcomes.proofs.Plain.{plain}
 
 open-log-settled : Settled open-log.ended (λ M 𝓤. open-log.clauses) (λ M 𝓤. open-log.spec)
@@ -12,6 +11,3 @@ open-log-settled = plain (λ κs a s s'. refl)
 
 seek-settled : Settled seek.ended (λ M 𝓤. seek.clauses) (λ M 𝓤. seek.spec)
 seek-settled = plain (λ κs a s s'. refl)
-
-halt-of-settled : Settled halt-of.ended (λ M 𝓤. halt-of.clauses) (λ M 𝓤. halt-of.spec)
-halt-of-settled = plain (λ κs a s s'. refl)

@@ -2,11 +2,15 @@
 -- Assumes nothing.
 use mathlib.Core.Path.{refl}
 use Rattle.laws.specs.Outcome.{Settled}
+use Rattle.registers.specs.contracts.U8FromRefusal.from as refusal-number
 use Rattle.registers.specs.contracts.number_of as number_of_lem
 use Rattle.registers.specs.contracts.is_accepted as is-accepted
 use Rattle.registers.specs.contracts.read_answer as read_answer
 use Rattle.registers.specs.contracts.judge_write as judge-write
 use Rattle.outcomes.proofs.Plain.{plain}
+
+refusal-number-settled : Settled refusal-number.ended (λ M 𝓤. refusal-number.clauses) (λ M 𝓤. refusal-number.spec)
+refusal-number-settled = plain (λ κs a s s'. refl)
 
 number-of-settled : Settled number_of_lem.ended (λ M 𝓤. number_of_lem.clauses) (λ M 𝓤. number_of_lem.spec)
 number-of-settled = plain (λ κs a s s'. refl)

@@ -11,10 +11,9 @@ use Rattle.laws.specs.Lists.{is_in}
 use Rattle.laws.proofs.Finite.{at-any}
 use Rattle.table.specs.Rows.{row_at, merged, writable, the_table}
 use Rattle.detectors.specs.Detectors.{detectors_written}
-use Rattle.registers.specs.Answers.{number, accepted}
+use Rattle.registers.specs.Answers.{done, number, accepted}
 use Rattle.registers.specs.Refused.{reserved_code, not_modelled, answer_at}
 use Rattle.registers.specs.Deeds.{deeds_of, judgement}
-use Rattle.registers.specs.declared.Answer.TheVariants.{Done}
 use Rattle.registers.specs.declared.Deeds.{Deeds}
 use Rattle.registers.specs.declared.Judged.{Judged}
 use Rattle.device.specs.Device.{flat_of}
@@ -34,7 +33,7 @@ abbrev only_stores : Deeds
 only_stores = record { stores = true; empties = false; releases = false; forgets = false; restarts = record { motion = false; gravity = false; slow = false }; resets = false }
 
 abbrev OnlyStored : ℕ → ℕ → List ℕ → Type 0
-OnlyStored byte a regs = judgement regs a byte ≡ record { answer = Done; deeds = only_stores; stored = merged (row_at a) byte }
+OnlyStored byte a regs = judgement regs a byte ≡ record { answer = done; deeds = only_stores; stored = merged (row_at a) byte }
 
 only-stored : (regs : List ℕ) (byte a : ℕ) → is_in offsets a ≡ true → OnlyStored byte a regs
 unfolding judgement deeds_of answer_at reserved_code not_modelled the_table
@@ -44,7 +43,7 @@ only-stored regs byte = at-any (λ a. OnlyStored byte a regs) offsets (rw (and_z
 module _ (d : Device) (a byte : ℕ) (h : is_in offsets a ≡ true) where
   left : write_of d a byte
       ≡ record {
-        answer = Done;
+        answer = done;
         device = record {
           regs = regs_written only_stores a (merged (row_at a) byte) d.regs;
           channels = d.channels;

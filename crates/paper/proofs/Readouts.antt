@@ -11,10 +11,11 @@ use lib.Dec.{eqb, leb, ltb}
 use Rattle.laws.specs.Choice.{pick, both, either}
 use Rattle.codes.specs.Addresses.{control_at, frames_at}
 use Rattle.codes.specs.Mode.{mode_of, is_reserved_mode}
-use Rattle.registers.specs.Answers.{accepted}
+use Rattle.std.specs.Prelude.{Err}
+use Rattle.registers.specs.Answers.{done, accepted}
 use Rattle.registers.specs.Deeds.{is_reset, clears}
 use Rattle.registers.specs.Refused.{read_answer}
-use Rattle.registers.specs.declared.Answer.TheVariants.{Done, BadLength}
+use Rattle.registers.specs.declared.Refusal.TheVariants.{BadLength}
 use Rattle.registers.proofs.Verdicts.{control-accepted}
 use Rattle.events.specs.Event.{Event, power_up, write, read, sample, cycle, clock}
 use Rattle.events.specs.Bank.{bank}
@@ -34,7 +35,7 @@ at-frames n = go (eqb n 0) refl (ltb 192 n) refl
         let some : n ≢ 0 = eqb-false n 0 e in
         rw (e, f, le-leb 1 n (omega arith)) (long s f)
       where
-        long : (s : Bool) → ltb 192 n ≡ s → accepted (pick s BadLength Done) ≡ leb n 192
+        long : (s : Bool) → ltb 192 n ≡ s → accepted (pick s (Err BadLength) done) ≡ leb n 192
         long true f = sym (lt-leb n 192 (ltb-true 192 n f))
         long false f = sym (le-leb n 192 (ltb-false 192 n f))
 

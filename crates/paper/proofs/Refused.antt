@@ -21,10 +21,11 @@ use Rattle.codes.specs.Range as range
 use Rattle.codes.specs.Range.{range_of}
 use Rattle.codes.specs.Wait as wait
 use Rattle.table.specs.Rows.{row_at, the_table}
-use Rattle.registers.specs.Answers.{number, accepted}
+use Rattle.std.specs.Prelude.{Err}
+use Rattle.registers.specs.Answers.{done, refusal_number, number, accepted}
 use Rattle.registers.specs.Refused.{write_answer, answer_at, reserved_code, not_modelled, lack_at}
-use Rattle.registers.specs.declared.Answer.TheVariants.{Done, ReservedCode}
-use Rattle.registers.proofs.Answers.{lack-any, lack-refused}
+use Rattle.registers.specs.declared.Refusal.TheVariants.{ReservedCode}
+use Rattle.registers.proofs.Answers.{lack-any}
 use Rattle.paper.specs.Ranges.{is_known_range}
 use Rattle.paper.specs.Refused.{means_no_wait, is_reserved_write, is_detector_write, is_power_mode_write, is_test_or_trim_write, is_lacking, accepts}
 use Rattle.paper.proofs.Bits.{share_one, share-one}
@@ -70,7 +71,7 @@ refused-small a h = ltb-true (row_at a).2 256 (alike (λ i. ltb (row_at i).2 256
 module _ (regs : List ℕ) (a b : ℕ) (h : a < 64) where
   -- whether a setting of the register is not modelled and n is the number of what is lacking there
   abbrev lack_numbered : ℕ → Bool
-  lack_numbered n = both (eqb n (number (lack_at a))) (not_modelled regs (row_at a) a b)
+  lack_numbered n = both (eqb n (refusal_number (lack_at a))) (not_modelled regs (row_at a) a b)
 
   not-modelled : not_modelled regs (row_at a) a b ≡ share_one (row_at a).2 b
   unfolding not_modelled
@@ -78,23 +79,23 @@ module _ (regs : List ℕ) (a b : ℕ) (h : a < 64) where
 
   pub detector-is : lack_numbered 11 ≡ is_detector_write a b
   unfolding lack_at the_table is_detector_write bit
-  detector-is = rw not-modelled (alike (λ i. both (eqb 11 (number (lack_at i))) (share_one (row_at i).2 b)) (λ i. is_detector_write i b) 64 refl a h)
+  detector-is = rw not-modelled (alike (λ i. both (eqb 11 (refusal_number (lack_at i))) (share_one (row_at i).2 b)) (λ i. is_detector_write i b) 64 refl a h)
 
   pub power-mode-is : lack_numbered 12 ≡ is_power_mode_write a b
   unfolding lack_at the_table is_power_mode_write bit
-  power-mode-is = rw not-modelled (alike (λ i. both (eqb 12 (number (lack_at i))) (share_one (row_at i).2 b)) (λ i. is_power_mode_write i b) 64 refl a h)
+  power-mode-is = rw not-modelled (alike (λ i. both (eqb 12 (refusal_number (lack_at i))) (share_one (row_at i).2 b)) (λ i. is_power_mode_write i b) 64 refl a h)
 
   pub test-or-trim-is : lack_numbered 13 ≡ is_test_or_trim_write a b
   unfolding lack_at the_table is_test_or_trim_write bit
-  test-or-trim-is = rw not-modelled (alike (λ i. both (eqb 13 (number (lack_at i))) (share_one (row_at i).2 b)) (λ i. is_test_or_trim_write i b) 64 refl a h)
+  test-or-trim-is = rw not-modelled (alike (λ i. both (eqb 13 (refusal_number (lack_at i))) (share_one (row_at i).2 b)) (λ i. is_test_or_trim_write i b) 64 refl a h)
 
 -- what is lacking has one of the three numbers
 abbrev one_of_three : ℕ → Bool → Bool
 one_of_three n t = either (both (eqb 11 n) t) (either (both (eqb 12 n) t) (both (eqb 13 n) t))
 
-pub some_number : (a : ℕ) (t : Bool) → t ≡ one_of_three (number (lack_at a)) t
-some_number a true = lack-any (λ x. true ≡ one_of_three (number x) true) refl refl refl a
-some_number a false = lack-any (λ x. false ≡ one_of_three (number x) false) refl refl refl a
+pub some_number : (a : ℕ) (t : Bool) → t ≡ one_of_three (refusal_number (lack_at a)) t
+some_number a true = lack-any (λ x. true ≡ one_of_three (refusal_number x) true) refl refl refl a
+some_number a false = lack-any (λ x. false ≡ one_of_three (refusal_number x) false) refl refl refl a
 
 module _ (regs : List ℕ) where
   pub lacking-is : (a b : ℕ) → a < 64 → not_modelled regs (row_at a) a b ≡ is_lacking a b
@@ -105,9 +106,9 @@ module _ (regs : List ℕ) where
   unfolding answer_at accepts
   accepts-is a b = go (ltb frames_at a) refl
     where
-      tests : (r s : Bool) → accepted (pick r ReservedCode (pick s (lack_at a) Done)) ≡ not (either r s)
+      tests : (r s : Bool) → accepted (pick r (Err ReservedCode) (pick s (Err (lack_at a)) done)) ≡ not (either r s)
       tests true s = refl
-      tests false true = lack-refused a
+      tests false true = refl
       tests false false = refl
 
       go : (t : Bool) → ltb frames_at a ≡ t → accepted (write_answer regs a b) ≡ accepts (λ k. get_or regs k 0) a b

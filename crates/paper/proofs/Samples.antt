@@ -10,8 +10,9 @@ use lib.IntN.{ℤ, pos, negsuc}
 use Rattle.laws.specs.Choice.{pick, both, either}
 use Rattle.laws.proofs.Finite.{left}
 use Rattle.channels.specs.Codes.{in_range, code}
-use Rattle.registers.specs.Answers.{accepted}
-use Rattle.registers.specs.declared.Answer.TheVariants.{Done, OutOfRange}
+use Rattle.std.specs.Prelude.{Err}
+use Rattle.registers.specs.Answers.{done, accepted}
+use Rattle.registers.specs.declared.Refusal.TheVariants.{OutOfRange}
 use Rattle.device.specs.Sample.{sample_answer}
 use Rattle.paper.specs.Samples.{is_inside, all_inside, twelve_bits, msb_byte}
 
@@ -31,7 +32,7 @@ pub sample-is : (x y z : ℤ) → accepted (sample_answer x y z) ≡ all_inside 
 unfolding sample_answer
 sample-is x y z = rw (inside_is x, inside_is y, inside_is z) (go (is_inside x) (is_inside y) (is_inside z))
   where
-    go : (p q r : Bool) → accepted (pick (either (not p) (either (not q) (not r))) OutOfRange Done) ≡ both p (both q r)
+    go : (p q r : Bool) → accepted (pick (either (not p) (either (not q) (not r))) (Err OutOfRange) done) ≡ both p (both q r)
     go true true true = refl
     go true true false = refl
     go true false r = refl

@@ -17,9 +17,10 @@ use Rattle.fifo.specs.Flat.{Flat}
 use Rattle.fifo.specs.Setting.{size_of}
 use Rattle.fifo.specs.Store.{room, read_in, bytes_in}
 use Rattle.fifo.proofs.Store.{read-cut, bytes_cut}
-use Rattle.registers.specs.Answers.{number}
+use Rattle.std.specs.Prelude.{Err}
+use Rattle.registers.specs.Answers.{done, number}
 use Rattle.registers.specs.Refused.{read_answer}
-use Rattle.registers.specs.declared.Answer.TheVariants.{Done, BadLength, PastEnd}
+use Rattle.registers.specs.declared.Refusal.TheVariants.{BadLength, PastEnd}
 use Rattle.device.specs.Device.{depth, reg, flat_of, with_flat}
 use Rattle.device.specs.Read.{after_singles, single_bytes, read_of}
 use Rattle.device.specs.declared.Device.{Device}
@@ -50,7 +51,7 @@ some (n ∷ m ∷ ns) h = omega arith
 
 -- ---- at 0x3F
 -- which readouts are accepted
-readout-done : (n : ℕ) → 1 ≤ n → n ≤ 192 → read_answer 0x3F n ≡ Done
+readout-done : (n : ℕ) → 1 ≤ n → n ≤ 192 → read_answer 0x3F n ≡ done
 unfolding read_answer
 readout-done n h l = rw (ne_eqb n 0 (omega arith), le-ltb 192 n l)
 
@@ -58,7 +59,7 @@ readout-bound : (n : ℕ) → number (read_answer 0x3F n) ≡ 0 → n ≤ 192
 unfolding read_answer
 readout-bound n z = go (ltb 192 n) refl
   where
-    long : (t : Bool) → number (pick (either t true) BadLength Done) ≡ 5
+    long : (t : Bool) → number (pick (either t true) (Err BadLength) done) ≡ 5
     long true = refl
     long false = refl
 
@@ -124,7 +125,7 @@ module _ (d : Device) (a n : ℕ) where
 
 -- which reads are accepted
 module _ (a n : ℕ) (h : a < 0x3F) where
-  burst-done : 1 ≤ n → a + n ≤ 0x3F → read_answer a n ≡ Done
+  burst-done : 1 ≤ n → a + n ≤ 0x3F → read_answer a n ≡ done
   unfolding read_answer
   burst-done o l = rw (le-ltb frames_at a (omega arith), ne_eqb n 0 (omega arith), le-ltb 192 n (omega arith), lt-ltb a frames_at h, le-ltb frames_at (a + n) l)
 
@@ -132,7 +133,7 @@ module _ (a n : ℕ) (h : a < 0x3F) where
   unfolding read_answer
   burst-end z = go (ltb frames_at (a + n)) refl
     where
-      late : (t s : Bool) → number (pick (either t s) BadLength PastEnd) ≡ 0 → ⊥
+      late : (t s : Bool) → number (pick (either t s) (Err BadLength) (Err PastEnd)) ≡ 0 → ⊥
       late true s q = absurd (omega arith)
       late false true q = absurd (omega arith)
       late false false q = absurd (omega arith)

@@ -13,10 +13,10 @@ use denote.Triple.Clauses as clauses
 use mir.Syntax.{Dict}
 use seplogic.Ra.Ura.{Ura}
 use Rattle.laws.specs.Outcome.{SourceClauses, Claim, promised}
+use Rattle.follow.specs.Whole.{printed_from}
 use Rattle.playback.specs.Replay as replay
 use Rattle.answers.specs.Answer as answer
-use Rattle.jobs.specs.Job.{printed_by, to_replay, to_answer, to_sheet}
-use Rattle.jobs.specs.declared.Task.TheVariants as task
+use Rattle.sheeting.specs.Sheeting as sheet
 use Rattle.stream.specs.Pump.{PumpedAs, status_of}
 use Rattle.stream.specs.contracts.pump_replay as pump-replay
 use Rattle.stream.specs.contracts.pump_answer as pump-answer
@@ -35,12 +35,12 @@ module _ (R W : RattleType) (reads : Reads R.Denot) (by : Dict) (writes : Writes
 
   pub replay-contract : let T = pump-replay.ended R W reads by writes to in
       ◌≡◌ {A = SourceClauses T} (λ M 𝓤. pump-replay.clauses R W reads by writes to)
-      (promised_while T both_live (λ κs a r e. let pins = a.1.1.0 in PumpedAs r.how (replay.printed pins) task.Replay (to_replay pins) r))
+      (promised_while T both_live (λ κs a r e. let pins = a.1.1.0 in PumpedAs r.how (replay.printed pins) replay.replayer (replay.start pins) r))
   replay-contract = refl
 
   pub answer-contract : let T = pump-answer.ended R W reads by writes to in
       ◌≡◌ {A = SourceClauses T} (λ M 𝓤. pump-answer.clauses R W reads by writes to)
-      (promised_while T both_live (λ κs a r e. let asked = a.1.1.0 in PumpedAs r.how (answer.printed asked) task.Answer (to_answer asked) r))
+      (promised_while T both_live (λ κs a r e. let asked = a.1.1.0 in PumpedAs r.how (answer.printed asked) answer.answerer (answer.start asked) r))
   answer-contract = refl
 
 module _ (R : RattleType) (reads : Reads R.Denot) (by : Dict) where
@@ -49,7 +49,7 @@ module _ (R : RattleType) (reads : Reads R.Denot) (by : Dict) where
 
   pub sheet-contract : let T = pump-sheet.ended R reads by in
       ◌≡◌ {A = SourceClauses T} (λ M 𝓤. pump-sheet.clauses R reads by)
-      (promised_while T reader_lives (λ κs a r e. PumpedAs r.how (printed_by task.Sheet to_sheet) task.Sheet to_sheet r))
+      (promised_while T reader_lives (λ κs a r e. PumpedAs r.how (printed_from sheet.sheeter sheet.start) sheet.sheeter sheet.start r))
   sheet-contract = refl
 
 pub status-contract : ◌≡◌ {A = SourceClauses status-of.ended} (λ M 𝓤. status-of.clauses) (promised status-of.ended (λ κs a r e. r ≡ status_of a.0))

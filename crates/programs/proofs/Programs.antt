@@ -1,6 +1,6 @@
 -- What the status of a program means, by the contracts of its pump, and of the programs.
 -- Assumes nothing.
-use Prim.Native.Nat.{ℕ}
+use Prim.Native.Nat.{ℕ, min}
 use mathlib.Core.Bool.{Bool, true, false}
 use mathlib.Core.List.{List, [], ◌∷◌}
 use mathlib.Core.Logic.{◌⊎◌, inl, inr, ◌↔◌}
@@ -19,6 +19,8 @@ use Rattle.benchlog.specs.declared.Refusal.{Refusal}
 use Rattle.benchlog.specs.declared.Refusal.TheVariants.{WrongVersion, WrongRecord, Cut}
 use Rattle.benchlog.proofs.Walks.{walked, records-within, none-cases}
 use Rattle.benchlog.specs.declared.Entry.{Entry}
+use Rattle.follow.specs.Source.{records}
+use Rattle.follow.specs.Teller.{Teller, Lawful}
 use Rattle.follow.specs.Whole.{said_of, said_from, text_of, printed_from, stop_from, led_to}
 use Rattle.follow.proofs.Whole.{log-number}
 use Rattle.text.specs.Text.{decimal, last_digits}
@@ -27,13 +29,8 @@ use Rattle.answers.specs.Answer as answer
 use Rattle.answers.specs.declared.Asked.{Asked}
 use Rattle.sheeting.specs.Sheeting as sheet
 use Rattle.sheets.specs.declared.Month.{Month}
-use Rattle.sheeting.specs.Sheeting.{sheeter, log_sheet, month_with}
+use Rattle.sheeting.specs.Sheeting.{sheeter, sheet_of, log_sheet, month_with}
 use Rattle.sheeting.specs.declared.Sheeting.{Sheeting}
-use Rattle.jobs.specs.Job.{worker, printed_by, to_replay, to_answer, to_sheet, sheet_in}
-use Rattle.jobs.proofs.Jobs.{led-by}
-use Rattle.jobs.specs.declared.Job.{Job}
-use Rattle.jobs.specs.declared.Task.{Task}
-use Rattle.jobs.specs.declared.Task.TheVariants as task
 use Rattle.stream.specs.Pump.{PumpedAs, status_of}
 use Rattle.stream.specs.declared.Ended.{Ended}
 use Rattle.stream.specs.declared.How.{How}
@@ -104,8 +101,8 @@ log-listed log = go (read_version log)
     go (Err refusal) = refused refusal
 
 -- ---- of a pump that begins before the version byte
-module _ (printed : List ℕ → List ℕ) (k : Task) (job : Job) (off : (worker k).begun job ≡ false) where
-  module _ (ended : Ended) (log : List ℕ) (f : Followed printed k job ended log) where
+module _ (printed : List ℕ → List ℕ) (who : Teller records) (law : Lawful who) (first : who.State) (off : who.begun first ≡ false) where
+  module _ (ended : Ended who.State) (log : List ℕ) (f : Followed printed who first ended log) where
     abbrev refusal : ℕ
     refusal = f.refusal
 
@@ -119,8 +116,8 @@ module _ (printed : List ℕ → List ℕ) (k : Task) (job : Job) (off : (worker
     number_is : number ≡ refusal
     number_is =
         let last = f.stopped.last in
-        let by = stopped_by last.done f.rest f.may last.room last.turned.0 in
-        sym (log-number (worker k) log job off) ∙ ap (stop_from (worker k) job) f.log_is ∙ by ∙ last.turned.1
+        let by = stopped_by law last.done f.rest f.may last.room last.turned.0 in
+        sym (log-number who log first off) ∙ ap (stop_from who first) f.log_is ∙ by
 
     due : (n : ℕ) → number ≡ n → DueOfLog log n
     due n = (demand1.of-log log n).0
@@ -154,17 +151,17 @@ module _ (printed : List ℕ → List ℕ) (k : Task) (job : Job) (off : (worker
         back (inr (inl is)) = rw (status-is, ← only 8 is)
         back (inr (inr is)) = rw (status-is, ← only 9 is)
 
-  either_way : (ended : Ended) (how : How) → ended.how ≡ how → PumpedAs how printed k job ended → Failed how ⊎ ((log : List ℕ) × Followed printed k job ended log)
+  either_way : (ended : Ended who.State) (how : How) → ended.how ≡ how → PumpedAs how printed who first ended → Failed how ⊎ ((log : List ℕ) × Followed printed who first ended log)
   either_way ended On e p = inl (inr (inr refl))
   either_way ended (Stopped refusal) e p = inr (_, record { refusal = refusal; how-is = e; stopped = p; rest = []; may = λ q. refl; log_is = refl })
   either_way ended NotRead e p = inl (inl refl)
   either_way ended NotWritten e p = inl (inr (inl refl))
 
-  pub means : StatusMeans printed k job
+  pub means : StatusMeans printed who first
   means = record {
     each = λ ended. either_way ended ended.how refl;
     text = λ ended log f. f.stopped.text f.rest f.may ∙ ap printed (sym f.log_is);
-    led = λ ended log f. f.stopped.led f.rest f.may ∙ ap (led_to (worker k) job) (sym f.log_is);
+    led = λ ended log f. f.stopped.led f.rest f.may ∙ ap (led_to who first) (sym f.log_is);
     done = done-is;
     refused = refused-is;
     failed = failed-is;
@@ -172,17 +169,17 @@ module _ (printed : List ℕ → List ℕ) (k : Task) (job : Job) (off : (worker
   }
 
 -- ---- of the programs
-pub replay-means : (pins : Bool) → StatusMeans (replay.printed pins) task.Replay (to_replay pins)
+pub replay-means : (pins : Bool) → StatusMeans (replay.printed pins) replay.replayer (replay.start pins)
 unfolding replay.start
-replay-means pins = means (replay.printed pins) task.Replay (to_replay pins) refl
+replay-means pins = means (replay.printed pins) replay.replayer replay.replays (replay.start pins) refl
 
-pub answer-means : (asked : Asked) → StatusMeans (answer.printed asked) task.Answer (to_answer asked)
+pub answer-means : (asked : Asked) → StatusMeans (answer.printed asked) answer.answerer (answer.start asked)
 unfolding answer.start
-answer-means asked = means (answer.printed asked) task.Answer (to_answer asked) refl
+answer-means asked = means (answer.printed asked) answer.answerer answer.answers (answer.start asked) refl
 
-pub sheet-status : StatusMeans (printed_by task.Sheet to_sheet) task.Sheet to_sheet
+pub sheet-status : StatusMeans (printed_from sheeter sheet.start) sheeter sheet.start
 unfolding sheet.start
-sheet-status = means (printed_by task.Sheet to_sheet) task.Sheet to_sheet refl
+sheet-status = means (printed_from sheeter sheet.start) sheeter sheet.sheets sheet.start refl
 
 silent-items : (items : List Entry) (s : Sheeting) (stop : ℕ) → text_of sheeter s items stop ≡ []
 unfolding said_of
@@ -200,29 +197,29 @@ silent-log s log =
     same true = refl
     same false = refl
 
-sheet-is : (ended : Ended) (log : List ℕ) → Followed (printed_by task.Sheet to_sheet) task.Sheet to_sheet ended log → sheet_in ended.job ≡ log_sheet log
-sheet-is ended log f = ap sheet_in (sheet-status.led ended log f ∙ led-by task.Sheet to_sheet log)
+sheet-is : (ended : Ended Sheeting) (log : List ℕ) → Followed (printed_from sheeter sheet.start) sheeter sheet.start ended log → sheet_of ended.follower ≡ log_sheet log
+sheet-is ended log f = ap sheet_of (sheet-status.led ended log f)
 
-unbegun : (worker task.Sheet).begun to_sheet ≡ false
+unbegun : sheeter.begun sheet.start ≡ false
 unfolding sheet.start
 unbegun = refl
 
-added_is : (m : Month) (ended : Ended) (log : List ℕ) → Followed (printed_by task.Sheet to_sheet) task.Sheet to_sheet ended log → log_added m ended ≡ added_of (with_log m log)
+added_is : (m : Month) (ended : Ended Sheeting) (log : List ℕ) → Followed (printed_from sheeter sheet.start) sheeter sheet.start ended log → log_added m ended ≡ added_of (with_log m log)
 unfolding log_added
 added_is m ended log f =
-    ap (λ (h : How). job_added m h ended.job) f.how-is
-    ∙ (λ i. added_of (month_with m (sheet-is ended log f i) (sym (number_is (printed_by task.Sheet to_sheet) task.Sheet to_sheet unbegun ended log f) i)))
+    ap (λ (h : How). job_added m h ended.follower) f.how-is
+    ∙ (λ i. added_of (month_with m (sheet-is ended log f i) (sym (number_is (printed_from sheeter sheet.start) sheeter sheet.sheets sheet.start unbegun ended log f) i)))
 
 pub sheet-means : SheetMeans
 sheet-means = record {
   sheet = sheet-is;
   added = added_is;
-  silent = λ log. silent-log to_sheet.sheeting log;
+  silent = λ log. silent-log sheet.start log;
 }
 
 -- ---- of a read, and of a program that was not used as it is meant to be
 pub read-means : ReadMeans
-read-means = record { failed = λ error room. refl; came = λ E k room few. (refl, omega (arith, few)) }
+read-means = record { failed = λ error room. refl; came = λ E k room few. let is : min k room ≡ k = omega (arith, few) in rw is }
 
 pub misuse-means : MisuseMeans
 unfolding decimal last_digits

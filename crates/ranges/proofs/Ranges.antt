@@ -16,9 +16,10 @@ use Rattle.codes.specs.Range.{range_of, is_reserved_range}
 use Rattle.codes.specs.declared.Range.{Range}
 use Rattle.codes.specs.declared.Range.TheVariants.{G2, G4, G8, G16, Reserved}
 use Rattle.table.specs.Rows.{the_table}
-use Rattle.registers.specs.Answers.{number, accepted}
+use Rattle.std.specs.Prelude.{Err}
+use Rattle.registers.specs.Answers.{done, number, accepted}
 use Rattle.registers.specs.Refused.{reserved_code, not_modelled, answer_at, write_answer}
-use Rattle.registers.specs.declared.Answer.TheVariants.{Done, ReservedCode}
+use Rattle.registers.specs.declared.Refusal.TheVariants.{ReservedCode}
 use Rattle.counts.specs.Counts.{in_g}
 use Rattle.device.specs.Device.{reg}
 use Rattle.device.specs.Show.{range_in}
@@ -58,18 +59,18 @@ module _ (es : List Event) where
       range-means (reg (after es) range_at) ∙ ap g_by left
 
 -- ---- a write
-answer_at_lem : (regs : List ℕ) (byte : ℕ) → write_answer regs range_at byte ≡ pick (not (is_known_range byte)) ReservedCode Done
+answer_at_lem : (regs : List ℕ) (byte : ℕ) → write_answer regs range_at byte ≡ pick (not (is_known_range byte)) (Err ReservedCode) done
 unfolding answer_at reserved_code not_modelled the_table
 answer_at_lem regs byte = rw (and_zero_r byte, reserved-range byte)
 
 pub range-refused : (es : List Event) (byte : ℕ) → ((gives (after es) (write 0x0F byte)).number ≡ 2) ↔ (is_known_range byte ≡ false)
 range-refused es byte =
-    let is : (gives (after es) (write 0x0F byte)).number ≡ number (pick (not (is_known_range byte)) ReservedCode Done) =
+    let is : (gives (after es) (write 0x0F byte)).number ≡ number (pick (not (is_known_range byte)) (Err ReservedCode) done) =
     ap (λ g. g.number) (registers.answered es range_at byte) ∙ ap number (answer_at_lem (bank es) byte) in
     let when = go (is_known_range byte) in
     (λ h. when.0 (sym is ∙ h), λ h. is ∙ when.1 h)
   where
-    go : (t : Bool) → (number (pick (not t) ReservedCode Done) ≡ 2) ↔ (t ≡ false)
+    go : (t : Bool) → (number (pick (not t) (Err ReservedCode) done) ≡ 2) ↔ (t ≡ false)
     go true = (λ h. absurd (omega arith), λ h. let z : ◌≡◌ {A = ℕ} 0 1 = cc in absurd (omega arith))
     go false = (λ h. refl, λ h. refl)
 

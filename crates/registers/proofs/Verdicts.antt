@@ -16,14 +16,15 @@ use Rattle.codes.specs.Addresses.{range_at, reset_at, control_at, frames_at}
 use Rattle.codes.specs.Mode.{mode_of, is_reserved_mode}
 use Rattle.codes.specs.Range.{range_of, is_reserved_range}
 use Rattle.table.specs.Rows.{row_at, writable, the_table}
-use Rattle.registers.specs.Answers.{accepted}
+use Rattle.std.specs.Prelude.{Err}
+use Rattle.registers.specs.Answers.{done, accepted}
 use Rattle.registers.specs.Deeds.{soft_reset_byte, is_reset, deeds_of, no_deeds, judgement, clears}
 use Rattle.registers.specs.Refused.{reserved_code, not_modelled, answer_at, write_answer}
-use Rattle.registers.specs.declared.Answer.TheVariants.{Done, ReservedCode}
+use Rattle.registers.specs.declared.Refusal.TheVariants.{ReservedCode}
 use Rattle.registers.specs.declared.Deeds.{Deeds}
 
 -- ---- the verdict at 0x0F, 0x14 and 0x3E
-unless : (t : Bool) → accepted (pick t ReservedCode Done) ≡ not t
+unless : (t : Bool) → accepted (pick t (Err ReservedCode) done) ≡ not t
 unless true = refl
 unless false = refl
 

@@ -2,7 +2,7 @@
 #![tactic(auto)]
 
 ghost use Rattle.std.specs.Prelude.{◌≡◌};
-ghost use Rattle.registers.specs.Answers.{number, place, accepted};
+ghost use Rattle.registers.specs.Answers.{refusal_number, number, place, accepted};
 ghost use Rattle.registers.specs.Refused.{reserved_code, not_modelled, lack_at, answer_at, read_answer};
 ghost use Rattle.registers.specs.Deeds.{is_reset, motion_restarting, gravity_restarting, slow_restarting, deeds_of, deeds_when, judgement_at, judgement};
 ghost use Rattle.laws.specs.Lists.{is_in};
@@ -22,11 +22,10 @@ pub const LONGEST_READ: usize = 192;
 // The byte that at 0x14 is a soft reset.
 pub const SOFT_RESET: u8 = 0xB6;
 
-// What an event is answered; `number_of` gives its number. The last three name what the twin lacks; the third of them is self-test, memory,
+// Why an event is refused; its number is `u8::from`. The last three name what the twin lacks; the third of them is self-test, memory,
 // calibration or offset reset.
-#[derive(Clone, Copy)]
-pub enum Answer {
-    Done,
+#[derive(Clone, Copy, Debug, PartialEq, Eq)]
+pub enum Refusal {
     NoAddress,
     ReservedCode,
     OutOfRange,
@@ -36,6 +35,9 @@ pub enum Answer {
     NoPowerMode,
     NoTestOrTrim,
 }
+
+// What an event is answered: that it is done, or why it is refused. `number_of` gives its number.
+pub type Answer = Result<(), Refusal>;
 
 // Which detectors a write starts anew: any-motion; low-g and high-g; slow motion and no-motion.
 #[derive(Clone, Copy)]
@@ -79,55 +81,57 @@ pub struct Judged {
     pub stored: u8,
 }
 
-// Which of the answers it is, in the order of their numbers.
-fn place_of(answer: Answer) -> u8
-    ensures { result ≡ place answer }
+// Which of the refusals it is, in the order of their numbers, from 1 on.
+fn place_of(refusal: Refusal) -> u8
+    ensures { result ≡ place refusal }
 {
-    match answer {
-        Answer::Done => 0,
-        Answer::NoAddress => 1,
-        Answer::ReservedCode => 2,
-        Answer::OutOfRange => 3,
-        Answer::BadLength => 4,
-        Answer::PastEnd => 5,
-        Answer::NoDetector => 6,
-        Answer::NoPowerMode => 7,
-        Answer::NoTestOrTrim => 8,
+    match refusal {
+        Refusal::NoAddress => 1,
+        Refusal::ReservedCode => 2,
+        Refusal::OutOfRange => 3,
+        Refusal::BadLength => 4,
+        Refusal::PastEnd => 5,
+        Refusal::NoDetector => 6,
+        Refusal::NoPowerMode => 7,
+        Refusal::NoTestOrTrim => 8,
     }
 }
 
-// The number: 0 to 2, 4 to 6 and 11 to 13. A match that gave these themselves would be compiled to a table, and the entry for C would
+// The number: 1, 2, 4 to 6 and 11 to 13. A match that gave these themselves would be compiled to a table, and the entry for C would
 // then copy the device once more at each event.
+impl From<Refusal> for u8 {
+    ghost from_gives = { λ refusal number. number ≡ refusal_number refusal };
+
+    fn from(refusal: Refusal) -> u8 {
+        let place = place_of(refusal);
+        if place < 3 {
+            return place;
+        }
+        if place < 6 {
+            return place + 1;
+        }
+        place + 5
+    }
+}
+
+// The number: 0 where the event is done.
 pub fn number_of(answer: Answer) -> u8
     ensures { result ≡ number answer }
 {
-    let place = place_of(answer);
-    if place < 3 {
-        return place;
+    match answer {
+        Ok(()) => 0,
+        Err(refusal) => u8::from(refusal),
     }
-    if place < 6 {
-        return place + 1;
-    }
-    place + 5
 }
 
 pub fn is_accepted(answer: Answer) -> bool
     ensures { result ≡ accepted answer }
 {
-    match answer {
-        Answer::Done => true,
-        Answer::NoAddress => false,
-        Answer::ReservedCode => false,
-        Answer::OutOfRange => false,
-        Answer::BadLength => false,
-        Answer::PastEnd => false,
-        Answer::NoDetector => false,
-        Answer::NoPowerMode => false,
-        Answer::NoTestOrTrim => false,
-    }
+    answer.is_ok()
 }
 
 // Whether a write is of a code that the sheet reserves, or would bring no-motion and a code without a meaning for it together.
+#[tactic(auto, unfolding(crate::specs::Refused::reserved_code))]
 fn is_reserved_code(regs: &[u8; 64], address: u8, byte: u8) -> bool
     ensures { result ≡ reserved_code regs.now address byte }
 {
@@ -142,6 +146,7 @@ fn is_reserved_code(regs: &[u8; 64], address: u8, byte: u8) -> bool
 }
 
 // Whether a write is of a setting that is not modelled.
+#[tactic(auto, unfolding(crate::specs::Refused::not_modelled))]
 fn is_not_modelled(regs: &[u8; 64], row: Row, address: u8, byte: u8) -> bool
     ensures { result ≡ not_modelled regs.now row address byte }
 {
@@ -149,53 +154,51 @@ fn is_not_modelled(regs: &[u8; 64], row: Row, address: u8, byte: u8) -> bool
 }
 
 // What the twin lacks where a register has a setting that is not modelled.
-fn lack_at(address: u8) -> Answer
+#[tactic(auto, unfolding(crate::specs::Refused::lack_at))]
+fn lack_at(address: u8) -> Refusal
     ensures { result ≡ lack_at address }
 {
     let at = address as usize;
     match at {
-        POWER_AT => Answer::NoPowerMode,
-        AXES_AT => Answer::NoDetector,
-        _ => Answer::NoTestOrTrim,
+        POWER_AT => Refusal::NoPowerMode,
+        AXES_AT => Refusal::NoDetector,
+        _ => Refusal::NoTestOrTrim,
     }
 }
 
 // What a write is answered.
+#[tactic(auto, unfolding(crate::specs::Refused::answer_at))]
 fn write_answer(regs: &[u8; 64], row: Row, address: u8, byte: u8) -> Answer
     ensures { result ≡ answer_at regs.now row address byte }
 {
     if address as usize > FRAMES_AT {
-        return Answer::NoAddress;
+        return Err(Refusal::NoAddress);
     }
     if is_reserved_code(regs, address, byte) {
-        return Answer::ReservedCode;
+        return Err(Refusal::ReservedCode);
     }
     if is_not_modelled(regs, row, address, byte) {
-        return lack_at(address);
+        return Err(lack_at(address));
     }
-    Answer::Done
+    Ok(())
 }
 
 // What a read of count bytes is answered.
+#[tactic(auto, unfolding(crate::specs::Refused::read_answer))]
 pub fn read_answer(address: u8, count: usize) -> Answer
     ensures { result ≡ read_answer address count }
 {
     let first = address as usize;
     if first > FRAMES_AT {
-        return Answer::NoAddress;
+        return Err(Refusal::NoAddress);
     }
-    if count == 0 {
-        return Answer::BadLength;
+    if count == 0 || count > LONGEST_READ {
+        return Err(Refusal::BadLength);
     }
-    if count > LONGEST_READ {
-        return Answer::BadLength;
+    if first < FRAMES_AT && first + count > FRAMES_AT {
+        return Err(Refusal::PastEnd);
     }
-    if first < FRAMES_AT {
-        if first + count > FRAMES_AT {
-            return Answer::PastEnd;
-        }
-    }
-    Answer::Done
+    Ok(())
 }
 
 // Whether a write is a soft reset.
@@ -209,51 +212,41 @@ fn is_reset(address: u8, byte: u8) -> bool
 fn restarts_motion(address: u8) -> bool
     ensures { result ≡ is_in motion_restarting address }
 {
-    let at = address as usize;
-    match at {
-        RANGE_AT => true,
-        AXES_AT => true,
-        LATCH_AT => true,
-        POINTS_AT => true,
-        THRESHOLD_AT => true,
-        _ => false,
-    }
+    matches!(
+        address as usize,
+        RANGE_AT | AXES_AT | LATCH_AT | POINTS_AT | THRESHOLD_AT
+    )
 }
 
 // Whether low-g and high-g start anew at an accepted write.
 fn restarts_gravity(address: u8) -> bool
     ensures { result ≡ is_in gravity_restarting address }
 {
-    let at = address as usize;
-    match at {
-        RANGE_AT => true,
-        ENABLES_AT => true,
-        LATCH_AT => true,
-        LOW_DELAY_AT => true,
-        LOW_THRESHOLD_AT => true,
-        HYSTERESES_AT => true,
-        HIGH_DELAY_AT => true,
-        HIGH_THRESHOLD_AT => true,
-        _ => false,
-    }
+    matches!(
+        address as usize,
+        RANGE_AT
+            | ENABLES_AT
+            | LATCH_AT
+            | LOW_DELAY_AT
+            | LOW_THRESHOLD_AT
+            | HYSTERESES_AT
+            | HIGH_DELAY_AT
+            | HIGH_THRESHOLD_AT
+    )
 }
 
 // Whether slow motion and no-motion start anew at an accepted write.
 fn restarts_slow(address: u8) -> bool
     ensures { result ≡ is_in slow_restarting address }
 {
-    let at = address as usize;
-    match at {
-        RANGE_AT => true,
-        SLOW_AT => true,
-        LATCH_AT => true,
-        POINTS_AT => true,
-        SLOW_THRESHOLD_AT => true,
-        _ => false,
-    }
+    matches!(
+        address as usize,
+        RANGE_AT | SLOW_AT | LATCH_AT | POINTS_AT | SLOW_THRESHOLD_AT
+    )
 }
 
 // What an accepted write does.
+#[tactic(auto, unfolding(crate::specs::Deeds::deeds_of))]
 fn deeds_of(regs: &[u8; 64], row: Row, address: u8, byte: u8) -> Deeds
     ensures { result ≡ deeds_of regs.now row address byte }
 {
@@ -297,6 +290,7 @@ fn judge_at(regs: &[u8; 64], row: Row, address: u8, byte: u8) -> Judged
 }
 
 // What the registers, lent as they are before it, say of a write.
+#[tactic(auto, unfolding(crate::specs::Deeds::judgement))]
 pub fn judge_write(regs: &[u8; 64], address: u8, byte: u8) -> Judged
     ensures { result ≡ judgement regs.now address byte }
 {

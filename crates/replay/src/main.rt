@@ -1,26 +1,31 @@
 // Replays the log on standard input to standard output; with `pins`, the pins stand behind every record's line.
 #![tactic(auto)]
 
-ghost use Rattle.std.specs.Prelude.{◌≡◌};
-ghost use Rattle.arguments.specs.declared.PinsWanted.TheVariants.{Wrong};
+ghost use Rattle.std.specs.Prelude.{None, ◌≡◌};
 ghost use Rattle.replay.specs.Program.{ReplayedAs};
 
-use arguments::{PinsWanted, pins_of};
+use arguments::pins_of;
 use caller::Output;
+use playback::Replay;
 use std::io::Write;
 use std::process::ExitCode;
 use stream::Ended;
 
 // How the replay that was asked for came to its end.
-fn tell_replayed<E: Write>(rt: &HostRuntime, errors: &mut E, wanted: PinsWanted, ended: Ended)
+fn tell_replayed<E: Write>(
+    rt: &HostRuntime,
+    errors: &mut E,
+    wanted: Option<bool>,
+    ended: Ended<Replay>,
+)
     requires { ReplayedAs wanted ended }
 {
     ending::tell_end(rt, errors, b"replay", ended);
 }
 
 // Where nothing was asked for in so many words.
-fn tell_misused<E: Write>(rt: &HostRuntime, errors: &mut E, wanted: PinsWanted)
-    requires { wanted ≡ Wrong }
+fn tell_misused<E: Write>(rt: &HostRuntime, errors: &mut E, wanted: Option<bool>)
+    requires { wanted ≡ None }
 {
     ending::tell_use(
         rt,
@@ -36,7 +41,7 @@ fn main(rt: HostRuntime) -> ExitCode {
     let mut errors = Output::new(rt.stderr());
     // of a word that does not fit into its buffer the count is 0, and an empty word asks for nothing
     let wanted = pins_of(caller::word_count(&rt), &first[..n]);
-    let PinsWanted::Of(pins) = wanted else {
+    let Some(pins) = wanted else {
         tell_misused(&rt, &mut errors, wanted);
         return errors.status();
     };

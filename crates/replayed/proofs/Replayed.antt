@@ -9,9 +9,8 @@ use lib.ListN.{length}
 use Rattle.laws.specs.Bytes.{zeros}
 use Rattle.laws.specs.Choice.{pick}
 use Rattle.laws.proofs.Bytes.{length-zeros}
-use Rattle.registers.specs.Answers.{number, accepted}
-use Rattle.registers.specs.declared.Answer.{Answer}
-use Rattle.registers.specs.declared.Answer.TheVariants.{Done, NoAddress, ReservedCode, OutOfRange, BadLength, PastEnd, NoDetector, NoPowerMode, NoTestOrTrim}
+use Rattle.std.specs.Prelude.{Ok, Err}
+use Rattle.registers.specs.Answers.{Answer, number, accepted}
 use Rattle.device.specs.declared.Device.{Device}
 use Rattle.events.specs.Event.{Event, Given, power_up, write, read, sample, cycle, clock, happens, lent_by, gives}
 use Rattle.events.specs.Run.{after}
@@ -25,15 +24,8 @@ use Rattle.replayed.proofs.Lines.{line_of}
 
 -- a refused event gives no bytes
 not-accepted : (a : Answer) → number a ≢ 0 → accepted a ≡ false
-not-accepted Done h = absurd (h refl)
-not-accepted NoAddress h = refl
-not-accepted ReservedCode h = refl
-not-accepted OutOfRange h = refl
-not-accepted BadLength h = refl
-not-accepted PastEnd h = refl
-not-accepted NoDetector h = refl
-not-accepted NoPowerMode h = refl
-not-accepted NoTestOrTrim h = refl
+not-accepted (Ok x) h = absurd (h refl)
+not-accepted (Err refusal) h = refl
 
 no_bytes : (d : Device) (e : Event) → (gives d e).number ≢ 0 → (gives d e).bytes ≡ []
 no_bytes d power_up h = refl

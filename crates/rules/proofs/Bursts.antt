@@ -12,10 +12,10 @@ use Rattle.laws.specs.Choice.{pick, both, either}
 use Rattle.laws.specs.Table.{up_from}
 use Rattle.laws.proofs.Finite.{left, right}
 use Rattle.codes.specs.Addresses.{frames_at}
-use Rattle.registers.specs.Answers.{number, accepted}
+use Rattle.std.specs.Prelude.{Err}
+use Rattle.registers.specs.Answers.{Answer, done, number, accepted}
 use Rattle.registers.specs.Refused.{read_answer, longest_read}
-use Rattle.registers.specs.declared.Answer.{Answer}
-use Rattle.registers.specs.declared.Answer.TheVariants.{Done, BadLength, PastEnd}
+use Rattle.registers.specs.declared.Refusal.TheVariants.{BadLength, PastEnd}
 use Rattle.registers.proofs.Answers.{zero-accepted}
 use Rattle.device.specs.Read.{single_byte, after_single, after_singles, single_bytes, read_of}
 use Rattle.device.specs.declared.Device.{Device}
@@ -39,12 +39,12 @@ burst-is a n = go (ltb a 0x3F) refl
     refused false x y p q = q
 
     low : a < 0x3F → (z : Bool) → eqb n 0 ≡ z → (p : Bool) → ltb 0x3F (a + n) ≡ p
-        → both (accepted (pick (either z (ltb longest_read n)) BadLength (pick p PastEnd Done))) true ≡ both (leb 1 n) (leb (a + n) 0x3F)
+        → both (accepted (pick (either z (ltb longest_read n)) (Err BadLength) (pick p (Err PastEnd) done))) true ≡ both (leb 1 n) (leb (a + n) 0x3F)
     low h true e p f = rw (eqb-true n 0 e)
     low h false e true f =
         let g = ltb-true 0x3F (a + n) f in
         let n0 : 1 ≤ n = omega (arith, eqb-false n 0 e) in
-        rw (refused (ltb longest_read n) BadLength PastEnd refl refl, le-leb 1 n n0, lt-leb (a + n) 0x3F g)
+        rw (refused (ltb longest_read n) (Err BadLength) (Err PastEnd) refl refl, le-leb 1 n n0, lt-leb (a + n) 0x3F g)
     low h false e false f =
         let g = ltb-false 0x3F (a + n) f in
         let n0 : 1 ≤ n = omega (arith, eqb-false n 0 e) in

@@ -11,10 +11,10 @@ use Rattle.laws.specs.Choice.{pick}
 use Rattle.laws.proofs.Finite.{alike}
 use Rattle.codes.specs.Addresses.{frames_at}
 use Rattle.table.specs.Rows.{row_at, the_table}
-use Rattle.registers.specs.Answers.{accepted}
+use Rattle.std.specs.Prelude.{Err}
+use Rattle.registers.specs.Answers.{done, accepted}
 use Rattle.registers.specs.Refused.{write_answer, answer_at, reserved_code, not_modelled, lack_at}
-use Rattle.registers.specs.declared.Answer.TheVariants.{Done, NoAddress, ReservedCode}
-use Rattle.registers.proofs.Answers.{lack-refused}
+use Rattle.registers.specs.declared.Refusal.TheVariants.{NoAddress, ReservedCode}
 use Rattle.paper.specs.Computed.{the_paper}
 use Rattle.paper.specs.Table.{reset_of}
 
@@ -29,10 +29,10 @@ module _ (regs : List ℕ) (a byte : ℕ) (h : accepted (write_answer regs a byt
   unfolding answer_at
   none-due = go (ltb frames_at a) (reserved_code regs a byte) (not_modelled regs (row_at a) a byte) h
     where
-      go : (r s t : Bool) → accepted (pick r NoAddress (pick s ReservedCode (pick t (lack_at a) Done))) ≡ true → (s ≡ false) × (t ≡ false)
+      go : (r s t : Bool) → accepted (pick r (Err NoAddress) (pick s (Err ReservedCode) (pick t (Err (lack_at a)) done))) ≡ true → (s ≡ false) × (t ≡ false)
       go true s t e = (cc, cc)
       go false true t e = (cc, cc)
-      go false false true e = let f = lack-refused a in (refl, cc)
+      go false false true e = (refl, cc)
       go false false false e = (refl, refl)
 
   pub accepted-clear : bit_and byte (row_at a).2 ≡ 0

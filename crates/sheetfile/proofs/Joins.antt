@@ -9,15 +9,16 @@ use lib.Dec.{leb}
 use lib.IntN.{ℤ, pos, negsuc, ◌+ℤ◌}
 use lib.Signed.{lt_z, le_z}
 use Rattle.laws.specs.Choice.{pick, both}
-use Rattle.laws.proofs.Finite.{left, right, picked}
-use Rattle.std.specs.Prelude.{Option, Some, None}
-use Rattle.sheets.specs.Sheets.{smaller, larger, extremes_over, tally_over, axes_over, ranges_over, sheet_over, month_over, month_fits, empty_month, month_joined}
+use Rattle.laws.proofs.Finite.{left, right}
+use Rattle.std.specs.Prelude.{Option, Some, None, Result, Ok, Err}
+use Rattle.sheets.specs.Sheets.{smaller, larger, extremes_over, tally_over, axes_over, ranges_over, sheet_over, month_over, month_fits, empty_month, month_joined, kept}
 use Rattle.sheets.specs.declared.Extremes.{Extremes}
 use Rattle.sheets.specs.declared.Tally.{Tally}
 use Rattle.sheets.specs.declared.ByAxis.{ByAxis}
 use Rattle.sheets.specs.declared.ByRange.{ByRange}
 use Rattle.sheets.specs.declared.Sheet.{Sheet}
 use Rattle.sheets.specs.declared.Month.{Month}
+use Rattle.sheets.specs.declared.TooLarge.{TooLarge}
 use Rattle.sheetfile.specs.Whole.{is_zero, goes_with, tally_is_whole, axes_are_whole, ranges_are_whole, counts_add_up, is_whole}
 use Rattle.sheetfile.specs.Joins.{Joins}
 
@@ -104,9 +105,13 @@ unfolding is_whole
 over-whole a b =
     each-of-two _ _ _ _ (counts-add a.sheet b.sheet) (each-of-two _ _ _ _ (refused-most a b) (ranges-whole a.sheet.ranges b.sheet.ranges))
 
-joined-whole : (a b : Month) → is_whole a ≡ true → is_whole b ≡ true → is_whole (month_joined a b).month ≡ true
+joined-whole : (a b : Month) → is_whole a ≡ true → is_whole b ≡ true → is_whole (kept a (month_joined a b)) ≡ true
 unfolding month_joined
-joined-whole a b p q = picked (λ (m : Month). is_whole m ≡ true) (month_fits (month_over a b)) (over-whole a b p q) p
+joined-whole a b p q = go (month_fits (month_over a b))
+  where
+    go : (t : Bool) → is_whole (kept a (pick {A = Result Month TooLarge} t (Ok (month_over a b)) (Err (record {})))) ≡ true
+    go true = over-whole a b p q
+    go false = p
 
 empty-whole : is_whole empty_month ≡ true
 unfolding tally_is_whole axes_are_whole ranges_are_whole is_whole

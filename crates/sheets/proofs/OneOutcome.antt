@@ -3,10 +3,9 @@
 use mathlib.Core.Path.{refl}
 use Rattle.laws.specs.Outcome.{Settled}
 use Rattle.laws.proofs.Outcome.{settles, meet}
-use Rattle.sheets.specs.contracts.join_number as join-number
+use Rattle.sheets.specs.contracts.U8FromTooLarge.from as number
 use Rattle.sheets.specs.contracts.join_counts as join-counts
 use Rattle.sheets.specs.contracts.join_sums as join-sums
-use Rattle.sheets.specs.contracts.Extremes.wider as extremes-wider
 use Rattle.sheets.specs.contracts.extremes_over as extremes-over
 use Rattle.sheets.specs.contracts.Tally.none as tally-none
 use Rattle.sheets.specs.contracts.Tally.joined as tally-joined
@@ -19,17 +18,14 @@ use Rattle.sheets.specs.contracts.Sheet.joined as sheet-joined
 use Rattle.sheets.specs.contracts.Month.empty as month-empty
 use Rattle.sheets.specs.contracts.Month.joined as month-joined
 
-pub join-number-settled : Settled join-number.ended (λ M 𝓤. join-number.clauses) (λ M 𝓤. join-number.spec)
-join-number-settled = settles (λ κs a r r' s s' p q. (meet p q, refl))
+pub number-settled : Settled number.ended (λ M 𝓤. number.clauses) (λ M 𝓤. number.spec)
+number-settled = settles (λ κs a r r' s s' p q. (meet p q, refl))
 
 pub join-counts-settled : Settled join-counts.ended (λ M 𝓤. join-counts.clauses) (λ M 𝓤. join-counts.spec)
 join-counts-settled = settles (λ κs a r r' s s' p q. (meet p q, refl))
 
 pub join-sums-settled : Settled join-sums.ended (λ M 𝓤. join-sums.clauses) (λ M 𝓤. join-sums.spec)
 join-sums-settled = settles (λ κs a r r' s s' p q. (meet p q, refl))
-
-pub extremes-wider-settled : Settled extremes-wider.ended (λ M 𝓤. extremes-wider.clauses) (λ M 𝓤. extremes-wider.spec)
-extremes-wider-settled = settles (λ κs a r r' s s' p q. (meet p q, refl))
 
 pub extremes-over-settled : Settled extremes-over.ended (λ M 𝓤. extremes-over.clauses) (λ M 𝓤. extremes-over.spec)
 extremes-over-settled = settles (λ κs a r r' s s' p q. (meet p q, refl))

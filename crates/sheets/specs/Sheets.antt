@@ -1,7 +1,7 @@
 -- Q-8: "one sheet over many logs: samples accepted, taken, held at the end, lost, and held when the FIFO was cleared; per range and axis smallest, largest
 -- (none where no sample came) and signed sum of stored counts; clock total." The numbers of a sheet are exact here, and without bounds; `fits` says
 -- which of them go into 64 bits.
-use Rattle.std.specs.Prelude.{ℕ, ◌+◌, ◌^◌, Bool, ltb, Option, Some, None, ℤ, pos, ◌+ℤ◌}
+use Rattle.std.specs.Prelude.{ℕ, ◌+◌, ◌^◌, Bool, ltb, Option, Some, None, Result, Ok, Err, ℤ, pos, ◌+ℤ◌}
 use Rattle.std.specs.Int.Signed.{mag, lt_z}
 use Rattle.laws.specs.Choice.{pick, both}
 use Rattle.sheets.specs.declared.Extremes.{Extremes}
@@ -10,13 +10,7 @@ use Rattle.sheets.specs.declared.ByAxis.{ByAxis}
 use Rattle.sheets.specs.declared.ByRange.{ByRange}
 use Rattle.sheets.specs.declared.Sheet.{Sheet}
 use Rattle.sheets.specs.declared.Month.{Month}
-use Rattle.sheets.specs.declared.CountJoined.{CountJoined}
-use Rattle.sheets.specs.declared.SumJoined.{SumJoined}
-use Rattle.sheets.specs.declared.TallyJoined.{TallyJoined}
-use Rattle.sheets.specs.declared.AxesJoined.{AxesJoined}
-use Rattle.sheets.specs.declared.RangesJoined.{RangesJoined}
-use Rattle.sheets.specs.declared.SheetJoined.{SheetJoined}
-use Rattle.sheets.specs.declared.MonthJoined.{MonthJoined}
+use Rattle.sheets.specs.declared.TooLarge.{TooLarge}
 
 -- ---- what nothing comes to
 abbrev pub no_tally : Tally
@@ -106,31 +100,40 @@ sheet_fits s = both (counts_fit s) (ranges_fit s.ranges)
 abbrev pub month_fits : Month → Bool
 month_fits m = both (sheet_fits m.sheet) (both (count_fits m.logs) (count_fits m.refused))
 
--- ---- "15 when a total would not fit, the sheet unchanged": whether all fits, and what is there then
-unfoldable pub count_joined : ℕ → ℕ → CountJoined
-count_joined a b = record { fits = count_fits (a + b); count = pick (count_fits (a + b)) (a + b) a }
+-- ---- "15 when a total would not fit, the sheet unchanged": all of it where all of it fits, and else nothing
+abbrev pub where_it_fits : {T : Type 0} → (T → Bool) → T → Result T TooLarge
+where_it_fits fits total = pick (fits total) (Ok total) (Err (record {}))
 
-unfoldable pub sum_joined : ℤ → ℤ → SumJoined
-sum_joined a b = record { fits = sum_fits (a +ℤ b); sum = pick (sum_fits (a +ℤ b)) (a +ℤ b) a }
+unfoldable pub count_joined : ℕ → ℕ → Result ℕ TooLarge
+count_joined a b = where_it_fits count_fits (a + b)
 
-unfoldable pub tally_joined : Tally → Tally → TallyJoined
-tally_joined a b = record { fits = tally_fits (tally_over a b); tally = pick (tally_fits (tally_over a b)) (tally_over a b) a }
+unfoldable pub sum_joined : ℤ → ℤ → Result ℤ TooLarge
+sum_joined a b = where_it_fits sum_fits (a +ℤ b)
 
-unfoldable pub axes_joined : ByAxis → ByAxis → AxesJoined
-axes_joined a b = record { fits = axes_fit (axes_over a b); axes = pick (axes_fit (axes_over a b)) (axes_over a b) a }
+unfoldable pub tally_joined : Tally → Tally → Result Tally TooLarge
+tally_joined a b = where_it_fits tally_fits (tally_over a b)
 
-unfoldable pub ranges_joined : ByRange → ByRange → RangesJoined
-ranges_joined a b = record { fits = ranges_fit (ranges_over a b); ranges = pick (ranges_fit (ranges_over a b)) (ranges_over a b) a }
+unfoldable pub axes_joined : ByAxis → ByAxis → Result ByAxis TooLarge
+axes_joined a b = where_it_fits axes_fit (axes_over a b)
 
-unfoldable pub sheet_joined : Sheet → Sheet → SheetJoined
-sheet_joined a b = record { fits = sheet_fits (sheet_over a b); sheet = pick (sheet_fits (sheet_over a b)) (sheet_over a b) a }
+unfoldable pub ranges_joined : ByRange → ByRange → Result ByRange TooLarge
+ranges_joined a b = where_it_fits ranges_fit (ranges_over a b)
 
-unfoldable pub month_joined : Month → Month → MonthJoined
-month_joined a b = record { fits = month_fits (month_over a b); month = pick (month_fits (month_over a b)) (month_over a b) a }
+unfoldable pub sheet_joined : Sheet → Sheet → Result Sheet TooLarge
+sheet_joined a b = where_it_fits sheet_fits (sheet_over a b)
+
+unfoldable pub month_joined : Month → Month → Result Month TooLarge
+month_joined a b = where_it_fits month_fits (month_over a b)
+
+-- what whoever joins has then: the sum, or the first as it was
+abbrev pub kept : {T E : Type 0} → T → Result T E → T
+kept first (Ok sum) = sum
+kept first (Err e) = first
 
 -- the number of the refusal
 abbrev pub too_large : ℕ
 too_large = 15
 
-abbrev pub join_number : Bool → ℕ
-join_number fits = pick fits 0 too_large
+abbrev pub join_number : {T : Type 0} → Result T TooLarge → ℕ
+join_number (Ok sum) = 0
+join_number (Err e) = too_large

@@ -3,10 +3,7 @@
 #![tactic(auto)]
 
 ghost use Rattle.std.specs.Prelude.{◌≡◌};
-ghost use Rattle.laws.specs.Choice.{both};
-ghost use Rattle.sheets.specs.Sheets.{no_tally, no_tallies, no_ranges, empty_sheet, empty_month, wider, extremes_over, count_joined, sum_joined, tally_joined, axes_joined, ranges_joined, sheet_joined, month_joined, join_number};
-
-use laws::both;
+ghost use Rattle.sheets.specs.Sheets.{no_tally, no_tallies, no_ranges, empty_sheet, empty_month, wider, extremes_over, count_joined, sum_joined, tally_joined, axes_joined, ranges_joined, sheet_joined, month_joined, too_large};
 
 // The smallest and the largest of some stored counts.
 #[derive(Clone, Copy, Debug, PartialEq, Eq)]
@@ -60,105 +57,39 @@ pub struct Month {
     pub refused: u64,
 }
 
-// Two totals joined: whether the sum fits, and the sum; where it does not fit, the first as it was.
-#[derive(Clone, Copy)]
-pub struct CountJoined {
-    pub fits: bool,
-    pub count: u64,
-}
-
-#[derive(Clone, Copy)]
-pub struct SumJoined {
-    pub fits: bool,
-    pub sum: i64,
-}
-
-#[derive(Clone, Copy)]
-pub struct TallyJoined {
-    pub fits: bool,
-    pub tally: Tally,
-}
-
-#[derive(Clone, Copy)]
-pub struct AxesJoined {
-    pub fits: bool,
-    pub axes: ByAxis,
-}
-
-#[derive(Clone, Copy)]
-pub struct RangesJoined {
-    pub fits: bool,
-    pub ranges: ByRange,
-}
-
-#[derive(Clone, Copy)]
-pub struct SheetJoined {
-    pub fits: bool,
-    pub sheet: Sheet,
-}
-
-#[derive(Clone, Copy)]
-pub struct MonthJoined {
-    pub fits: bool,
-    pub month: Month,
-}
+// A total that would not fit. What a join was to add to stays with the caller, as it was.
+#[derive(Clone, Copy, Debug, PartialEq, Eq)]
+pub struct TooLarge;
 
 // The refusal of a total that would not fit.
 pub const TOO_LARGE: u8 = 15;
 
-// The number of a join: 0, or 15 where a total would not fit.
-pub fn join_number(fits: bool) -> u8
-    ensures { result ≡ join_number fits }
-{
-    if fits { 0 } else { TOO_LARGE }
+impl From<TooLarge> for u8 {
+    ghost from_gives = { λ _ number. number ≡ too_large };
+
+    fn from(_refusal: TooLarge) -> u8 {
+        TOO_LARGE
+    }
 }
 
 // ---- totals
-pub fn join_counts(a: u64, b: u64) -> CountJoined
-    ensures { result ≡ count_joined a b }
+#[tactic(auto, unfolding(crate::specs::Sheets::count_fits, crate::specs::Sheets::count_joined))]
+pub fn join_counts(count: u64, more: u64) -> Result<u64, TooLarge>
+    ensures { result ≡ count_joined count more }
 {
-    if u64::MAX - b < a {
-        return CountJoined {
-            fits: false,
-            count: a,
-        };
-    }
-    CountJoined {
-        fits: true,
-        count: a + b,
-    }
+    count.checked_add(more).ok_or(TooLarge)
 }
 
-pub fn join_sums(a: i64, b: i64) -> SumJoined
-    ensures { result ≡ sum_joined a b }
+#[tactic(auto, unfolding(crate::specs::Sheets::sum_fits, crate::specs::Sheets::sum_joined))]
+pub fn join_sums(sum: i64, more: i64) -> Result<i64, TooLarge>
+    ensures { result ≡ sum_joined sum more }
 {
-    if b < 0 {
-        if a < i64::MIN - b {
-            return SumJoined {
-                fits: false,
-                sum: a,
-            };
-        }
-        return SumJoined {
-            fits: true,
-            sum: a + b,
-        };
-    }
-    if i64::MAX - b < a {
-        return SumJoined {
-            fits: false,
-            sum: a,
-        };
-    }
-    SumJoined {
-        fits: true,
-        sum: a + b,
-    }
+    sum.checked_add(more).ok_or(TooLarge)
 }
 
 impl Extremes {
     // Over both.
-    pub fn wider(self, more: Extremes) -> Self
+    fn wider(self, more: Extremes) -> Self
         ensures { result ≡ wider self more }
     {
         Extremes {
@@ -189,31 +120,14 @@ impl Tally {
         }
     }
 
-    pub fn joined(self, more: Tally) -> TallyJoined
+    pub fn joined(self, more: Tally) -> Result<Self, TooLarge>
         ensures { result ≡ tally_joined self more }
     {
-        let sum = join_sums(self.sum, more.sum);
-        if sum.fits {
-            return TallyJoined {
-                fits: true,
-                tally: Tally {
-                    extremes: extremes_over(self.extremes, more.extremes),
-                    sum: sum.sum,
-                },
-            };
-        }
-        TallyJoined {
-            fits: false,
-            tally: self,
-        }
+        Ok(Tally {
+            extremes: extremes_over(self.extremes, more.extremes),
+            sum: join_sums(self.sum, more.sum)?,
+        })
     }
-}
-
-// Whether three totals fit.
-fn all_three(a: bool, b: bool, c: bool) -> bool
-    ensures { result ≡ both a (both b c) }
-{
-    both(a, both(b, c))
 }
 
 impl ByAxis {
@@ -227,28 +141,14 @@ impl ByAxis {
         }
     }
 
-    pub fn joined(self, more: ByAxis) -> AxesJoined
+    pub fn joined(self, more: ByAxis) -> Result<Self, TooLarge>
         ensures { result ≡ axes_joined self more }
     {
-        let x = self.x;
-        let y = self.y;
-        let z = self.z;
-        let x_joined = x.joined(more.x);
-        let y_joined = y.joined(more.y);
-        let z_joined = z.joined(more.z);
-        if all_three(x_joined.fits, y_joined.fits, z_joined.fits) {
-            let x = x_joined.tally;
-            let y = y_joined.tally;
-            let z = z_joined.tally;
-            return AxesJoined {
-                fits: true,
-                axes: ByAxis { x, y, z },
-            };
-        }
-        AxesJoined {
-            fits: false,
-            axes: self,
-        }
+        Ok(ByAxis {
+            x: self.x.joined(more.x)?,
+            y: self.y.joined(more.y)?,
+            z: self.z.joined(more.z)?,
+        })
     }
 }
 
@@ -264,31 +164,15 @@ impl ByRange {
         }
     }
 
-    pub fn joined(self, more: ByRange) -> RangesJoined
+    pub fn joined(self, more: ByRange) -> Result<Self, TooLarge>
         ensures { result ≡ ranges_joined self more }
     {
-        let g2 = self.g2;
-        let g4 = self.g4;
-        let g8 = self.g8;
-        let g16 = self.g16;
-        let at_2 = g2.joined(more.g2);
-        let at_4 = g4.joined(more.g4);
-        let at_8 = g8.joined(more.g8);
-        let at_16 = g16.joined(more.g16);
-        if both(both(at_2.fits, at_4.fits), both(at_8.fits, at_16.fits)) {
-            let g2 = at_2.axes;
-            let g4 = at_4.axes;
-            let g8 = at_8.axes;
-            let g16 = at_16.axes;
-            return RangesJoined {
-                fits: true,
-                ranges: ByRange { g2, g4, g8, g16 },
-            };
-        }
-        RangesJoined {
-            fits: false,
-            ranges: self,
-        }
+        Ok(ByRange {
+            g2: self.g2.joined(more.g2)?,
+            g4: self.g4.joined(more.g4)?,
+            g8: self.g8.joined(more.g8)?,
+            g16: self.g16.joined(more.g16)?,
+        })
     }
 }
 
@@ -309,38 +193,18 @@ impl Sheet {
     }
 
     // "joining two sheets equals the sheet over both": held at the end is the sum too, since each log starts at power-up.
-    pub fn joined(self, more: Sheet) -> SheetJoined
+    pub fn joined(self, more: Sheet) -> Result<Self, TooLarge>
         ensures { result ≡ sheet_joined self more }
     {
-        let accepted = join_counts(self.accepted, more.accepted);
-        let taken = join_counts(self.taken, more.taken);
-        let held = join_counts(self.held, more.held);
-        let lost = join_counts(self.lost, more.lost);
-        let cleared = join_counts(self.cleared, more.cleared);
-        let clock = join_counts(self.clock, more.clock);
-        let ranges = self.ranges;
-        let ranges = ranges.joined(more.ranges);
-        let first_fit = all_three(accepted.fits, taken.fits, held.fits);
-        let others_fit = all_three(lost.fits, cleared.fits, clock.fits);
-        if both(both(first_fit, others_fit), ranges.fits) {
-            let ranges = ranges.ranges;
-            return SheetJoined {
-                fits: true,
-                sheet: Sheet {
-                    accepted: accepted.count,
-                    taken: taken.count,
-                    held: held.count,
-                    lost: lost.count,
-                    cleared: cleared.count,
-                    clock: clock.count,
-                    ranges,
-                },
-            };
-        }
-        SheetJoined {
-            fits: false,
-            sheet: self,
-        }
+        Ok(Sheet {
+            accepted: join_counts(self.accepted, more.accepted)?,
+            taken: join_counts(self.taken, more.taken)?,
+            held: join_counts(self.held, more.held)?,
+            lost: join_counts(self.lost, more.lost)?,
+            cleared: join_counts(self.cleared, more.cleared)?,
+            clock: join_counts(self.clock, more.clock)?,
+            ranges: self.ranges.joined(more.ranges)?,
+        })
     }
 }
 
@@ -356,27 +220,13 @@ impl Month {
         }
     }
 
-    pub fn joined(self, more: Month) -> MonthJoined
+    pub fn joined(self, more: Month) -> Result<Self, TooLarge>
         ensures { result ≡ month_joined self more }
     {
-        let sheet = self.sheet;
-        let sheet = sheet.joined(more.sheet);
-        let logs = join_counts(self.logs, more.logs);
-        let refused = join_counts(self.refused, more.refused);
-        if all_three(sheet.fits, logs.fits, refused.fits) {
-            let sheet = sheet.sheet;
-            return MonthJoined {
-                fits: true,
-                month: Month {
-                    sheet,
-                    logs: logs.count,
-                    refused: refused.count,
-                },
-            };
-        }
-        MonthJoined {
-            fits: false,
-            month: self,
-        }
+        Ok(Month {
+            sheet: self.sheet.joined(more.sheet)?,
+            logs: join_counts(self.logs, more.logs)?,
+            refused: join_counts(self.refused, more.refused)?,
+        })
     }
 }

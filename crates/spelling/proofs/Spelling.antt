@@ -6,6 +6,7 @@ use mathlib.Core.Path.{◌≡◌, refl}
 use native.Mathlib.Omega.{arith}
 use borrow.Author.Tests.{ne_eqb, le-ltb}
 use lib.IntN.{ℤ, pos, negsuc}
+use Rattle.std.proofs.Common.{Option, None, Some}
 use Rattle.codes.specs.declared.Mode.{Mode}
 use Rattle.codes.specs.declared.Mode.TheVariants.{Bypass, Fifo, Stream}
 use Rattle.codes.specs.declared.Mode.TheVariants as mode
@@ -14,7 +15,6 @@ use Rattle.codes.specs.declared.Range.TheVariants.{G2, G4, G8, G16, Reserved}
 use Rattle.text.specs.Text.{ascii, decimal, last_digits}
 use Rattle.counts.specs.declared.Account.{Account}
 use Rattle.counts.specs.declared.Doubt.{Doubt}
-use Rattle.counts.specs.declared.Doubt.TheVariants.{No, By}
 use Rattle.counts.specs.declared.Why.{Why}
 use Rattle.counts.specs.declared.Why.TheVariants as why
 use Rattle.wording.specs.Wording.{range_word, mode_word, frames_word, doubt_sign, why_word, stretch_columns, stretch_line, moded_line, last_line, signed_column, sample_line, wrote_text, refused_line, because_text, range_line, mode_line, totals_line, short_line, over_line}
@@ -41,21 +41,21 @@ room-spelt Fifo = refl
 room-spelt Stream = refl
 room-spelt mode.Reserved = refl
 
-pub sign-spelt : (d : Doubt) → doubt_sign d ≡ doubt_text d
-sign-spelt No = refl
-sign-spelt (By byte number) = refl
+pub sign-spelt : (d : Option Doubt) → doubt_sign d ≡ doubt_text d
+sign-spelt None = refl
+sign-spelt (Some d) = refl
 
-pub why-spelt : (w : Why) → why_word w ≡ why_text w
-why-spelt why.Readout = refl
-why-spelt why.Range = refl
-why-spelt why.Refused = refl
-why-spelt why.Reset = refl
-why-spelt why.Nothing = refl
+pub why-spelt : (w : Option Why) → why_word w ≡ why_text w
+why-spelt (Some why.Readout) = refl
+why-spelt (Some why.Range) = refl
+why-spelt (Some why.Refused) = refl
+why-spelt (Some why.Reset) = refl
+why-spelt None = refl
 
-pub because-spelt : (d : Doubt) (address : ℕ) → because_text d address ≡ because d address ++ ascii "\n"
+pub because-spelt : (d : Option Doubt) (address : ℕ) → because_text d address ≡ because d address ++ ascii "\n"
 unfolding wrote_text
-because-spelt No address = refl
-because-spelt (By byte number) address = simp append_assoc
+because-spelt None address = refl
+because-spelt (Some d) address = simp append_assoc
 
 pub signed-spelt : (z : ℤ) → signed_column z ≡ coordinate z ++ ascii " "
 unfolding signed_column
@@ -63,7 +63,7 @@ signed-spelt (pos n) = rw (le-ltb n 0 (omega arith))
 signed-spelt (negsuc n) = refl
 
 -- ---- lines
-module _ (from behind before : Account) (w : Why) where
+module _ (from behind before : Account) (w : Option Why) where
   pub stretch-spelt : StretchSpelling from behind before w
   unfolding stretch_columns stretch_line moded_line
   stretch-spelt = record {

@@ -1,6 +1,6 @@
 -- docs/ANSWER.md: the lines of the answer as their reader finds them, word by word, for every number that stands in them. No contract
 -- cites these. `from`, `before` and `behind` are what is known at the end of the stretch before, before the last record and behind it.
-use Rattle.std.specs.Prelude.{ℕ, suc, Bool, true, false, List, [], ◌∷◌, ◌++◌, ◌≢◌, ◌≡◌, eqb, ℤ, pos, negsuc}
+use Rattle.std.specs.Prelude.{ℕ, suc, Bool, true, false, List, [], ◌∷◌, ◌++◌, ◌≢◌, ◌≡◌, eqb, ℤ, pos, negsuc, Option, None, Some}
 use Rattle.laws.specs.Choice.{pick}
 use Rattle.codes.specs.declared.Mode.{Mode}
 use Rattle.codes.specs.declared.Mode.TheVariants.{Bypass, Fifo, Stream}
@@ -11,7 +11,6 @@ use Rattle.counts.specs.Counts.{sum, less, in_g}
 use Rattle.counts.specs.declared.Account.{Account}
 use Rattle.counts.specs.declared.Counts.{Counts}
 use Rattle.counts.specs.declared.Doubt.{Doubt}
-use Rattle.counts.specs.declared.Doubt.TheVariants.{No, By}
 use Rattle.counts.specs.declared.Why.{Why}
 use Rattle.counts.specs.declared.Why.TheVariants as why
 use Rattle.wording.specs.Wording.{stretch_line, moded_line, last_line, sample_line, refused_line, range_line, mode_line, totals_line, short_line, over_line}
@@ -41,23 +40,23 @@ room_text Stream = ascii ", 32 frames"
 room_text mode.Reserved = ascii ", no frame"
 
 -- "behind it `?`" while it is in doubt
-abbrev pub doubt_text : Doubt → List ℕ
-doubt_text No = []
-doubt_text (By byte number) = ascii "?"
+abbrev pub doubt_text : Option Doubt → List ℕ
+doubt_text None = []
+doubt_text (Some d) = ascii "?"
 
 -- ", because record 2 wrote 07 to 0F and was refused", by the address
-abbrev pub because : Doubt → ℕ → List ℕ
-because No address = []
-because (By byte number) address =
-    ascii ", because record " ++ (decimal number ++ (ascii " wrote " ++ (hex (byte ∷ []) ++ (ascii " to " ++ (hex (address ∷ []) ++ ascii " and was refused")))))
+abbrev pub because : Option Doubt → ℕ → List ℕ
+because None address = []
+because (Some d) address =
+    ascii ", because record " ++ (decimal d.number ++ (ascii " wrote " ++ (hex (d.byte ∷ []) ++ (ascii " to " ++ (hex (address ∷ []) ++ ascii " and was refused")))))
 
 -- "WHY: `readout`, `range`, `refused`, `reset` or `rest`"
-abbrev pub why_text : Why → List ℕ
-why_text why.Readout = ascii "readout"
-why_text why.Range = ascii "range"
-why_text why.Refused = ascii "refused"
-why_text why.Reset = ascii "reset"
-why_text why.Nothing = ascii "rest"
+abbrev pub why_text : Option Why → List ℕ
+why_text (Some why.Readout) = ascii "readout"
+why_text (Some why.Range) = ascii "range"
+why_text (Some why.Refused) = ascii "refused"
+why_text (Some why.Reset) = ascii "reset"
+why_text None = ascii "rest"
 
 -- X, Y or Z
 abbrev pub coordinate : ℤ → List ℕ
@@ -94,7 +93,7 @@ module _ (from behind : Account) where
       ∷ [])
 
   -- "FROM TO RANGE ACCEPTED TAKEN LOST CLEARED HELD REFUSED WHY", and more columns
-  module _ (before : Account) (w : Why) where
+  module _ (before : Account) (w : Option Why) where
     abbrev pub columns_then : List (List ℕ) → List (List ℕ)
     columns_then more =
         decimal (sum from.number 1)

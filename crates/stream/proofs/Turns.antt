@@ -7,19 +7,19 @@ use mathlib.Core.Path.{◌≡◌, refl, sym, ap, subst, ◌∙◌}
 use native.Mathlib.Omega.{arith}
 use lib.ListN.{length, take}
 use lib.Seq.{length-take-le, take_at}
+use Rattle.std.specs.Prelude.{Some}
 use Rattle.benchlog.specs.Writer.{placed}
 use Rattle.text.proofs.Texts.{pushed-length}
 use Rattle.benchlog.specs.Format.{length_field, longest_body}
 use Rattle.benchlog.proofs.Local.{few-undecided}
 use Rattle.follow.specs.Follow.{Running}
-use Rattle.follow.specs.declared.Next.{Next}
-use Rattle.follow.specs.declared.Next.TheVariants.{Go, Wait, Full, Stop}
+use Rattle.follow.specs.Source.{records}
+use Rattle.follow.specs.Teller.{Teller, Lawful}
+use Rattle.follow.specs.declared.Halt.{Halt}
+use Rattle.follow.specs.declared.Halt.TheVariants.{Wait, Full, Stop}
 use Rattle.follow.proofs.Sources.{records-sound}
-use Rattle.follow.proofs.Stream.{never-go, waits, used-within}
-use Rattle.jobs.specs.Job.{worker}
-use Rattle.jobs.specs.declared.Ran.{Ran}
-use Rattle.jobs.specs.declared.Task.{Task}
-use Rattle.jobs.proofs.Jobs.{works}
+use Rattle.follow.proofs.Stream.{waits, used-within}
+use Rattle.follow.specs.declared.Ran.{Ran}
 use Rattle.window.specs.Window.{Within, unused, at_front, HasRoom}
 use Rattle.window.proofs.Places.{unused-few, unused-past, past-within}
 use Rattle.stream.specs.declared.State.{State}
@@ -27,21 +27,24 @@ use Rattle.stream.specs.declared.How.{How}
 use Rattle.stream.specs.declared.How.TheVariants.{On, Stopped, NotRead, NotWritten}
 use Rattle.stream.specs.Pump.{ran_over, after_run, ran_to, seeing, is_on, is_wait, how_after, ReadMore, emptied, refilled, MoreReadAs, BehindRun, BehindWrite, TurnedAs}
 
-is-waiting : (n : Next) → is_wait n ≡ true → n ≡ Wait
-is-waiting Go e = let z : ◌≡◌ {A = ℕ} 0 1 = cc in absurd (omega arith)
+is-waiting : (n : Halt) → is_wait n ≡ true → n ≡ Wait
 is-waiting Wait e = refl
 is-waiting Full e = let z : ◌≡◌ {A = ℕ} 0 1 = cc in absurd (omega arith)
-is-waiting Stop e = let z : ◌≡◌ {A = ℕ} 0 1 = cc in absurd (omega arith)
+is-waiting (Stop refusal) e = let z : ◌≡◌ {A = ℕ} 0 1 = cc in absurd (omega arith)
 
 -- what a run used was there: the window moves on by all of it
-pub moves-on : (k : Task) (s : State) (buffer : List ℕ) (room : ℕ) → (ran_to k s buffer room).window.from ≡ s.window.from + (ran_over k s buffer room).at
-moves-on k s buffer room = omega (arith, used-within records-sound (worker k) (unused s.window buffer) s.window.last s.job room, unused-few s.window buffer)
+pub moves-on : (who : Teller records) (s : State who.State) (buffer : List ℕ) (room : ℕ) → (ran_to who s buffer room).window.from ≡ s.window.from + (ran_over who s buffer room).at
+moves-on who s buffer room = omega (arith, used-within records-sound who (unused s.window buffer) s.window.last s.follower room, unused-few s.window buffer)
 
-module _ (k : Task) (s : State) (buffer : List ℕ) (room : ℕ) {ran : Ran} {out out' : List ℕ} (within : Within s.window (length buffer)) (is : Running (worker k) out (ran_over k s buffer room) out' ran.next ran.refusal ran.job ran.used ran.to) where
-  abbrev next : State
-  next = after_run s ran.job ran.used
+module _ (who : Teller records) (law : Lawful who) (s : State who.State) (buffer : List ℕ) (room : ℕ) {ran : Ran who.State} {out out' : List ℕ} (within : Within s.window (length buffer)) (is : Running who out (ran_over who s buffer room) out' ran) where
+  abbrev next : State who.State
+  next = after_run s ran.state ran.used
 
-  next-is : next ≡ ran_to k s buffer room
+  -- why it ended
+  halted : {h : Halt} → ran.halt ≡ h → (ran_over who s buffer room).halt ≡ Some h
+  halted e = sym is.halt-is ∙ ap (λ (h : Halt). Some h) e
+
+  next-is : next ≡ ran_to who s buffer room
   next-is = rw (is.state-is, is.used-is)
 
   next-within : Within next.window (length buffer)
@@ -52,44 +55,43 @@ module _ (k : Task) (s : State) (buffer : List ℕ) (room : ℕ) {ran : Ran} {ou
   text-there = sym (length-take-le ran.to out' (omega (arith, is.text-is.place, is.text-is.room, pushed-length is.text-is)))
 
   -- and is all that is handed to the write
-  pub text-handed : take ran.to out' ≡ (ran_over k s buffer room).text
+  pub text-handed : take ran.to out' ≡ (ran_over who s buffer room).text
   unfolding placed
-  text-handed = let long : length (ran_over k s buffer room).text ≡ ran.to = omega (arith, is.text-is.place) in rw is.text-is.bytes (take_at (ran_over k s buffer room).text _ ran.to long)
+  text-handed = let long : length (ran_over who s buffer room).text ≡ ran.to = omega (arith, is.text-is.place) in rw is.text-is.bytes (take_at (ran_over who s buffer room).text _ ran.to long)
 
   -- where it waits, less than a record is left
-  little-left : ran.next ≡ Wait → length (unused next.window buffer) < length_field + longest_body
-  little-left e = rw (unused-past s.window ran.used buffer, is.used-is) (few-undecided _ (waits records-sound (worker k) (works k) s.job (unused s.window buffer) s.window.last room (sym is.next-is ∙ e)).1)
+  little-left : ran.halt ≡ Wait → length (unused next.window buffer) < length_field + longest_body
+  little-left e = rw (unused-past s.window ran.used buffer, is.used-is) (few-undecided _ (waits records-sound who law s.follower (unused s.window buffer) s.window.last room (halted e)).1)
 
-  turned-further : is_wait ran.next ≡ false → TurnedAs k (how_after ran.next ran.refusal) s buffer room next buffer
-  turned-further = go ran.next refl
+  turned-further : is_wait ran.halt ≡ false → TurnedAs who (how_after ran.halt) s buffer room next buffer
+  turned-further = go ran.halt refl
     where
-      go : (n : Next) → ran.next ≡ n → is_wait n ≡ false → TurnedAs k (how_after n ran.refusal) s buffer room next buffer
-      go Go e f = absurd (never-go records-sound (worker k) (works k) s.job (unused s.window buffer) s.window.last room (sym is.next-is ∙ e))
+      go : (n : Halt) → ran.halt ≡ n → is_wait n ≡ false → TurnedAs who (how_after n) s buffer room next buffer
       go Wait e f = let z : ◌≡◌ {A = ℕ} 0 1 = cc in absurd (omega arith)
-      go Full e f = (emptied (sym is.next-is ∙ e) next-is refl, next-within)
-      go Stop e f = (sym is.next-is ∙ e, sym is.refusal_is, next-is)
+      go Full e f = (emptied (halted e) next-is refl, next-within)
+      go (Stop refusal) e f = (halted e, next-is)
 
-  turned-by-read : (how : How) (s' : State) (buffer' : List ℕ) → is_wait ran.next ≡ true → HasRoom next.window buffer → MoreReadAs how next buffer s' buffer' → TurnedAs k how s buffer room s' buffer'
-  turned-by-read how s' buffer' w room-left = go how (sym is.next-is ∙ is-waiting ran.next w)
+  turned-by-read : (how : How) (s' : State who.State) (buffer' : List ℕ) → is_wait ran.halt ≡ true → HasRoom next.window buffer → MoreReadAs how next buffer s' buffer' → TurnedAs who how s buffer room s' buffer'
+  turned-by-read how s' buffer' w room-left = go how (halted (is-waiting ran.halt w))
     where
-      go : (h : How) → (ran_over k s buffer room).next ≡ Wait → MoreReadAs h next buffer s' buffer' → TurnedAs k h s buffer room s' buffer'
-      go On e r = (refilled e (subst (λ (t : State). ReadMore t buffer s' buffer') next-is r.0), r.1)
+      go : (h : How) → (ran_over who s buffer room).halt ≡ Some Wait → MoreReadAs h next buffer s' buffer' → TurnedAs who h s buffer room s' buffer'
+      go On e r = (refilled e (subst (λ (t : State who.State). ReadMore t buffer s' buffer') next-is r.0), r.1)
       go (Stopped refusal) e r = absurd r
-      go NotRead e r = (e, r ∙ ap (λ (t : State). seeing t (at_front t.window buffer)) next-is, subst (λ (t : State). HasRoom t.window buffer) next-is room-left)
+      go NotRead e r = (e, r ∙ ap (λ (t : State who.State). seeing t (at_front t.window buffer)) next-is, subst (λ (t : State who.State). HasRoom t.window buffer) next-is room-left)
       go NotWritten e r = absurd r
 
   -- by whether the text is written
-  pub turned : (whole : Bool) (how : How) (s' : State) (buffer' : List ℕ) → 65536 ≡ length buffer → BehindWrite whole s ran buffer how s' buffer' → TurnedAs k how s buffer room s' buffer'
+  pub turned : (whole : Bool) (how : How) (s' : State who.State) (buffer' : List ℕ) → 65536 ≡ length buffer → BehindWrite whole s ran buffer how s' buffer' → TurnedAs who how s buffer room s' buffer'
   turned false how s' buffer' size t = rw t.0 t.1
-  turned true how s' buffer' size t = by-wait (is_wait ran.next) refl t
+  turned true how s' buffer' size t = by-wait (is_wait ran.halt) refl t
     where
-      by-wait : (w : Bool) → is_wait ran.next ≡ w → BehindRun w s ran buffer how s' buffer' → TurnedAs k how s buffer room s' buffer'
-      by-wait true e t = let l = little-left (is-waiting ran.next e) in turned-by-read how s' buffer' e (omega (arith, l, size)) t
+      by-wait : (w : Bool) → is_wait ran.halt ≡ w → BehindRun w s ran buffer how s' buffer' → TurnedAs who how s buffer room s' buffer'
+      by-wait true e t = let l = little-left (is-waiting ran.halt e) in turned-by-read how s' buffer' e (omega (arith, l, size)) t
       by-wait false e t = rw (t.0, t.1, t.2) (turned-further e)
 
 -- where the pump goes on, its turn went so, and the places are within the buffer
-pub turned_on : (k : Task) (how : How) (s : State) (buffer : List ℕ) (room : ℕ) (s' : State) (buffer' : List ℕ) → is_on how ≡ true → TurnedAs k how s buffer room s' buffer' → TurnedAs k On s buffer room s' buffer'
-turned_on k On s buffer room s' buffer' e t = t
-turned_on k (Stopped refusal) s buffer room s' buffer' e t = let z : ◌≡◌ {A = ℕ} 0 1 = cc in absurd (omega arith)
-turned_on k NotRead s buffer room s' buffer' e t = let z : ◌≡◌ {A = ℕ} 0 1 = cc in absurd (omega arith)
-turned_on k NotWritten s buffer room s' buffer' e t = let z : ◌≡◌ {A = ℕ} 0 1 = cc in absurd (omega arith)
+pub turned_on : (who : Teller records) (how : How) (s : State who.State) (buffer : List ℕ) (room : ℕ) (s' : State who.State) (buffer' : List ℕ) → is_on how ≡ true → TurnedAs who how s buffer room s' buffer' → TurnedAs who On s buffer room s' buffer'
+turned_on who On s buffer room s' buffer' e t = t
+turned_on who (Stopped refusal) s buffer room s' buffer' e t = let z : ◌≡◌ {A = ℕ} 0 1 = cc in absurd (omega arith)
+turned_on who NotRead s buffer room s' buffer' e t = let z : ◌≡◌ {A = ℕ} 0 1 = cc in absurd (omega arith)
+turned_on who NotWritten s buffer room s' buffer' e t = let z : ◌≡◌ {A = ℕ} 0 1 = cc in absurd (omega arith)

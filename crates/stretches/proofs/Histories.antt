@@ -19,7 +19,7 @@ use Rattle.fifo.specs.Flat.{Flat, packed}
 use Rattle.fifo.specs.Ledger.{held_of}
 use Rattle.fifo.specs.Store.{count_in}
 use Rattle.fifo.specs.declared.Setting.{Setting}
-use Rattle.registers.specs.Answers.{accepted}
+use Rattle.registers.specs.Answers.{Answer, accepted}
 use Rattle.registers.specs.Deeds.{judgement}
 use Rattle.paper.specs.Computed.{the_paper}
 use Rattle.paper.specs.Stored.{byte_by, is_accepted}
@@ -29,7 +29,6 @@ use Rattle.paper.proofs.Stored.{stored_is, accepted-is}
 use Rattle.paper.proofs.Samples.{sample-is}
 use Rattle.paper.proofs.Readouts.{readout-is}
 use Rattle.registers.specs.Refused.{read_answer, write_answer}
-use Rattle.registers.specs.declared.Answer.{Answer}
 use Rattle.device.specs.Clock.{clock_of}
 use Rattle.device.specs.Read.{read_of}
 use Rattle.device.specs.Sample.{sample_of}
@@ -50,7 +49,7 @@ use Rattle.recorded.specs.Recorded.{Recorded, events_of, before_own, answer_to}
 use Rattle.recorded.proofs.Recorded.{events-append, till-own}
 use Rattle.counts.specs.declared.Counts.{Counts}
 use Rattle.counts.specs.declared.Doubt.{Doubt}
-use Rattle.counts.specs.declared.Doubt.TheVariants.{No, By}
+use Rattle.std.proofs.Common.{Option, None, Some}
 use Rattle.counts.specs.declared.Why.TheVariants as why
 use Rattle.counts.specs.Counts as counts
 use Rattle.counts.specs.Counts.{sum, less, differences, left, arrived, first_account}
@@ -89,7 +88,7 @@ read-why : (es : List Event) (a n : ℕ) → why_of_read a (read_answer a n) ≡
 unfolding why_of_read why_at
 read-why es a n = rw (← readout-is a n) (go (eqb a frames_at) (accepted (read_answer a n)))
   where
-    go : (t s : Bool) → pick t (pick s why.Readout why.Nothing) why.Nothing ≡ pick (both s t) why.Readout why.Nothing
+    go : (t s : Bool) → pick t (pick s (Some why.Readout) None) None ≡ pick (both s t) (Some why.Readout) None
     go true true = refl
     go true false = refl
     go false true = refl
@@ -346,7 +345,7 @@ number-next : (n : ℕ) → suc n < 2 ^ 64 → sum n 1 ≡ suc n
 number-next n room = sum_is n 1 (omega arith) ∙ omega arith
 
 -- behind a write, of what any register sets
-doubt-written : (about : ℕ) (before : Doubt) (number : ℕ) (es : List Event) (a byte : ℕ)
+doubt-written : (about : ℕ) (before : Option Doubt) (number : ℕ) (es : List Event) (a byte : ℕ)
     → doubt_after before about a byte (write_answer (after es).regs a byte) number ≡ doubt_behind about before number es (write a byte)
 unfolding doubt_after
 doubt-written about before number es a byte = rw (write-is es a byte)

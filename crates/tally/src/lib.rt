@@ -3,18 +3,22 @@
 #![tactic(auto)]
 
 ghost use Rattle.std.specs.Prelude.{◌≡◌};
-ghost use Rattle.tally.specs.Tally.{no_sums, one_tally, one_sample, ranges_sampled, sums_clocked, sums_sampled};
+ghost use Rattle.tally.specs.Tally.{no_sums, one_tally, one_sample, row_of, with_row, ranges_sampled, totals_clocked, totals_sampled, sums_clocked, sums_sampled};
 
 use codes::Range;
-use laws::both;
-use sheets::{ByAxis, ByRange, Extremes, RangesJoined, Tally, join_counts};
+use sheets::{ByAxis, ByRange, Extremes, Tally, TooLarge, join_counts};
 
-// The clock and the tallies so far, and whether every total has fitted at every event.
+// The clock and the tallies of what came.
 #[derive(Clone, Copy)]
-pub struct Sums {
-    pub fits: bool,
+pub struct Totals {
     pub clock: u64,
     pub ranges: ByRange,
+}
+
+// The totals so far, where every one has fitted at every event.
+#[derive(Clone, Copy)]
+pub struct Sums {
+    pub so_far: Result<Totals, TooLarge>,
 }
 
 // The tally of one stored count.
@@ -41,79 +45,65 @@ fn one_sample(x: i16, y: i16, z: i16) -> ByAxis
     }
 }
 
-// With a sample more in the row of one range.
-fn at_2_g(ranges: ByRange, sample: ByAxis) -> RangesJoined
-    ensures { result ≡ ranges_sampled ranges Range.G2 sample }
-{
-    let own = ranges.g2;
-    let joined = own.joined(sample);
-    let g2 = joined.axes;
-    let g4 = ranges.g4;
-    let g8 = ranges.g8;
-    let g16 = ranges.g16;
-    RangesJoined {
-        fits: joined.fits,
-        ranges: ByRange { g2, g4, g8, g16 },
-    }
-}
-
-fn at_4_g(ranges: ByRange, sample: ByAxis) -> RangesJoined
-    ensures { result ≡ ranges_sampled ranges Range.G4 sample }
-{
-    let own = ranges.g4;
-    let joined = own.joined(sample);
-    let g2 = ranges.g2;
-    let g4 = joined.axes;
-    let g8 = ranges.g8;
-    let g16 = ranges.g16;
-    RangesJoined {
-        fits: joined.fits,
-        ranges: ByRange { g2, g4, g8, g16 },
-    }
-}
-
-fn at_8_g(ranges: ByRange, sample: ByAxis) -> RangesJoined
-    ensures { result ≡ ranges_sampled ranges Range.G8 sample }
-{
-    let own = ranges.g8;
-    let joined = own.joined(sample);
-    let g2 = ranges.g2;
-    let g4 = ranges.g4;
-    let g8 = joined.axes;
-    let g16 = ranges.g16;
-    RangesJoined {
-        fits: joined.fits,
-        ranges: ByRange { g2, g4, g8, g16 },
-    }
-}
-
-fn at_16_g(ranges: ByRange, sample: ByAxis) -> RangesJoined
-    ensures { result ≡ ranges_sampled ranges Range.G16 sample }
-{
-    let own = ranges.g16;
-    let joined = own.joined(sample);
-    let g2 = ranges.g2;
-    let g4 = ranges.g4;
-    let g8 = ranges.g8;
-    let g16 = joined.axes;
-    RangesJoined {
-        fits: joined.fits,
-        ranges: ByRange { g2, g4, g8, g16 },
-    }
-}
-
-// With a sample more, in the row of the range in force. No write of an unknown code is accepted, so none comes in an unknown range: there is no
-// row for one.
-fn with_sample(ranges: ByRange, range: Range, sample: ByAxis) -> RangesJoined
-    ensures { result ≡ ranges_sampled ranges range sample }
+// The row of a range. No write of an unknown code is accepted, so no sample comes in an unknown range: there is no row for one.
+fn row_of(ranges: ByRange, range: Range) -> Option<ByAxis>
+    ensures { result ≡ row_of ranges range }
 {
     match range {
-        Range::G2 => at_2_g(ranges, sample),
-        Range::G4 => at_4_g(ranges, sample),
-        Range::G8 => at_8_g(ranges, sample),
-        Range::G16 => at_16_g(ranges, sample),
-        Range::Reserved => RangesJoined { fits: true, ranges },
+        Range::G2 => Some(ranges.g2),
+        Range::G4 => Some(ranges.g4),
+        Range::G8 => Some(ranges.g8),
+        Range::G16 => Some(ranges.g16),
+        Range::Reserved => None,
     }
+}
+
+// With this row for that of the range.
+fn with_row(ranges: ByRange, range: Range, row: ByAxis) -> ByRange
+    ensures { result ≡ with_row ranges range row }
+{
+    match range {
+        Range::G2 => ByRange { g2: row, ..ranges },
+        Range::G4 => ByRange { g4: row, ..ranges },
+        Range::G8 => ByRange { g8: row, ..ranges },
+        Range::G16 => ByRange { g16: row, ..ranges },
+        Range::Reserved => ranges,
+    }
+}
+
+// With a sample more, in the row of the range in force.
+#[tactic(auto, unfolding(crate::specs::Tally::ranges_sampled))]
+fn with_sample(ranges: ByRange, range: Range, sample: ByAxis) -> Result<ByRange, TooLarge>
+    ensures { result ≡ ranges_sampled ranges range sample }
+{
+    match row_of(ranges, range) {
+        Some(row) => Ok(with_row(ranges, range, row.joined(sample)?)),
+        None => Ok(ranges),
+    }
+}
+
+fn totals_clocked(so_far: Result<Totals, TooLarge>, microseconds: u32) -> Result<Totals, TooLarge>
+    ensures { result ≡ totals_clocked so_far microseconds }
+{
+    let totals = so_far?;
+    Ok(Totals {
+        clock: join_counts(totals.clock, microseconds as u64)?,
+        ranges: totals.ranges,
+    })
+}
+
+fn totals_sampled(
+    so_far: Result<Totals, TooLarge>,
+    range: Range,
+    sample: ByAxis,
+) -> Result<Totals, TooLarge>
+    ensures { result ≡ totals_sampled so_far range sample }
+{
+    let Totals { clock, ranges } = so_far?;
+    Ok(Totals {
+        clock,
+        ranges: with_sample(ranges, range, sample)?,
+    })
 }
 
 impl Sums {
@@ -122,22 +112,20 @@ impl Sums {
         ensures { result ≡ no_sums }
     {
         Sums {
-            fits: true,
-            clock: 0,
-            ranges: ByRange::none(),
+            so_far: Ok(Totals {
+                clock: 0,
+                ranges: ByRange::none(),
+            }),
         }
     }
 
     // Behind a clock of so many microseconds.
+    #[tactic(auto, unfolding(crate::specs::Tally::sums_clocked))]
     pub fn clocked(self, microseconds: u32) -> Self
         ensures { result ≡ sums_clocked self microseconds }
     {
-        let clock = join_counts(self.clock, microseconds as u64);
-        let ranges = self.ranges;
         Sums {
-            fits: both(self.fits, clock.fits),
-            clock: clock.count,
-            ranges,
+            so_far: totals_clocked(self.so_far, microseconds),
         }
     }
 
@@ -145,12 +133,8 @@ impl Sums {
     pub fn sampled(self, range: Range, x: i16, y: i16, z: i16) -> Self
         ensures { result ≡ sums_sampled self range x y z }
     {
-        let joined = with_sample(self.ranges, range, one_sample(x, y, z));
-        let ranges = joined.ranges;
         Sums {
-            fits: both(self.fits, joined.fits),
-            clock: self.clock,
-            ranges,
+            so_far: totals_sampled(self.so_far, range, one_sample(x, y, z)),
         }
     }
 }

@@ -10,8 +10,7 @@ use lib.Dec.{eqb}
 use lib.ListN.{length}
 use Rattle.laws.specs.Bits.{worth}
 use Rattle.laws.specs.Choice.{pick}
-use Rattle.registers.specs.Answers.{accepted}
-use Rattle.registers.specs.declared.Answer.{Answer}
+use Rattle.registers.specs.Answers.{Answer, accepted}
 use Rattle.codes.specs.Addresses.{control_at}
 use Rattle.codes.specs.Mode.{mode_of}
 use Rattle.codes.specs.declared.Mode.{Mode}

@@ -12,8 +12,7 @@ use lib.Seq.{drop-append_seam}
 use borrow.Author.Tests.{eq-eqb, ne_eqb, lt-ltb, le-ltb}
 use Rattle.laws.specs.Choice.{pick}
 use Rattle.laws.proofs.Finite.{of-pick}
-use Rattle.registers.specs.Answers.{accepted, number}
-use Rattle.registers.specs.declared.Answer.{Answer}
+use Rattle.registers.specs.Answers.{Answer, accepted, number}
 use Rattle.events.specs.Event.{Event, power_up, write, read, sample, cycle, clock}
 use Rattle.events.specs.Views.{at_write}
 use Rattle.recorded.specs.Recorded.{Recorded, answer_to}

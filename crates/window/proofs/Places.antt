@@ -1,19 +1,18 @@
 -- The buffer's bytes between the two places of its window.
 -- Assumes nothing.
 use Prim.Native.Nat.{ℕ, zero, suc, ◌+◌, ◌-◌, ◌≤◌, ◌<◌, min}
-use mathlib.Core.Bool.{Bool, true, false}
 use mathlib.Core.List.{List, [], ◌∷◌, ◌++◌}
-use mathlib.Core.Path.{◌≡◌, refl, sym, ap, ◌∙◌}
+use mathlib.Core.Path.{◌≡◌, refl, sym, ap, subst, ◌∙◌}
 use native.Mathlib.Omega.{arith}
 use lib.ListN.{length, take, drop, length-append, length-take, length-drop}
 use lib.Seq.{take-add, take_at, drop_at, drop-nil, drop-drop, length-take-le, take-append-le, take-append-add}
-use Rattle.laws.specs.Choice.{pick}
-use Rattle.window.specs.declared.given.Got.{Got}
+use Rattle.std.specs.Prelude.{Result, Ok, Err, IfOk}
 use Rattle.laws.specs.Bytes.{between, moved_forward}
 use Rattle.laws.proofs.Bytes.{length-between}
 use borrow.Rule.Slice.PartMut.{put_mid, post_of}
+use Rattle.window.specs.declared.given.ReadFailed.{ReadFailed}
 use Rattle.window.specs.declared.Window.{Window}
-use Rattle.window.specs.Window.{Within, unused, past, at_front, HasRoom, with_read, more_of, Refilled, RefilledAs}
+use Rattle.window.specs.Window.{Within, unused, past, at_front, HasRoom, with_read, more_by, Refilled}
 
 -- the part that is lent
 pub unused-part : (w : Window) (buffer : List ℕ) → Within w (length buffer) → take (w.to - w.from) (drop w.from buffer) ≡ unused w buffer
@@ -94,13 +93,8 @@ module _ (w : Window) (buffer : List ℕ) {f : Window} {moved : List ℕ} (windo
         (omega arith, omega arith),
       )
 
--- what reading more comes to, by what the read gave
-pub refilled-as : (got : Got) (w : Window) (buffer : List ℕ) (f : Window) (buffer' : List ℕ) → f ≡ at_front w buffer
-    → (got.failed ≡ false → HasRoom w buffer × Refilled w buffer (with_read f got.count) buffer' × Within (with_read f got.count) (length buffer))
-    → RefilledAs (more_of f got).failed w buffer (more_of f got).window buffer'
-refilled-as got w buffer f buffer' front some = go got.failed some
-  where
-    go : (b : Bool) → (b ≡ false → HasRoom w buffer × Refilled w buffer (with_read f got.count) buffer' × Within (with_read f got.count) (length buffer))
-        → RefilledAs (pick b true false) w buffer (pick b f (with_read f got.count)) buffer'
-    go true some = front
-    go false some = some refl
+-- what is so behind a read that did not fail, by what it gave
+pub came : (count : Result ℕ ReadFailed) (f w : Window) (P : ℕ → Type 0) (Q : Window → Type 0) → more_by f count ≡ Ok w → IfOk count P
+    → ((n : ℕ) → P n → Q (with_read f n)) → Q w
+came (Ok n) f w P Q e p q = let is : with_read f n ≡ w = cc in subst Q is (q n p)
+came (Err x) f w P Q e p q = let z : ◌≡◌ {A = ℕ} 0 1 = cc in absurd (omega arith)

@@ -1,10 +1,9 @@
 -- The window of a lent buffer: what came and is not used; how a run moves it, and how a read.
-use Rattle.std.specs.Prelude.{ℕ, ◌+◌, ◌-◌, ◌≤◌, ◌<◌, min, ◌≡◌, Bool, true, false, List, ◌++◌, length, eqb}
+use Rattle.std.specs.Prelude.{ℕ, ◌+◌, ◌-◌, ◌≤◌, ◌<◌, min, ◌≡◌, false, List, ◌++◌, length, eqb, Result, Ok, Err}
 use Rattle.laws.specs.Bytes.{between}
-use Rattle.laws.specs.Choice.{pick}
 use Rattle.window.specs.declared.given.Got.{Got}
+use Rattle.window.specs.declared.given.ReadFailed.{ReadFailed}
 use Rattle.window.specs.declared.Window.{Window}
-use Rattle.window.specs.declared.More.{More}
 
 -- before the first read
 abbrev pub start : Window
@@ -36,8 +35,12 @@ with_read w n = record { from = w.from; to = w.to + n; last = eqb n 0 }
 
 -- ---- the call
 -- what is made of what a read gave
-abbrev pub more_of : Window → Got → More
-more_of w got = record { failed = pick got.failed true false; window = pick got.failed w (with_read w got.count) }
+abbrev pub more_by : Window → Result ℕ ReadFailed → Result Window ReadFailed
+more_by w (Ok n) = Ok (with_read w n)
+more_by w (Err e) = Err e
+
+abbrev pub more_of : Window → Got → Result Window ReadFailed
+more_of w got = more_by w got.count
 
 -- a read gave part: it stands behind what was not used
 pub record Refilled (w : Window) (buffer : List ℕ) (w' : Window) (buffer' : List ℕ) : Type 0 where
@@ -46,6 +49,6 @@ pub record Refilled (w : Window) (buffer : List ℕ) (w' : Window) (buffer' : Li
   pub bytes : unused w' buffer' ≡ unused w buffer ++ part
 
 -- what reading more comes to, by whether it failed
-abbrev pub RefilledAs : Bool → Window → List ℕ → Window → List ℕ → Type 0
-RefilledAs true w buffer w' buffer' = w' ≡ at_front w buffer
-RefilledAs false w buffer w' buffer' = HasRoom w buffer × Refilled w buffer w' buffer' × Within w' (length buffer)
+abbrev pub RefilledAs : Result (Unit {0}) ReadFailed → Window → List ℕ → Window → List ℕ → Type 0
+RefilledAs (Err e) w buffer w' buffer' = w' ≡ at_front w buffer
+RefilledAs (Ok read) w buffer w' buffer' = HasRoom w buffer × Refilled w buffer w' buffer' × Within w' (length buffer)

@@ -4,12 +4,13 @@
 
 mod given;
 
-ghost use Rattle.std.specs.Prelude.{false, ◌≡◌, ◌+◌, ◌≤◌, length};
+ghost use Rattle.std.specs.Prelude.{◌≡◌, ◌+◌, IfOk, length};
 ghost use Rattle.std.specs.Int.{w64};
 ghost use Rattle.std.proofs.Common.{Fits};
 ghost use Rattle.laws.specs.Bytes.{moved_forward};
 ghost use Rattle.window.specs.Window.{start, past, at_front, with_read, more_of, RefilledAs};
 
+pub use given::ReadFailed;
 use given::{Got, read_into};
 use laws::{least, move_forward};
 use std::io::Read;
@@ -20,13 +21,6 @@ pub struct Window {
     pub from: usize,
     pub to: usize,
     pub last: bool,
-}
-
-// What reading more came to: the window behind it, and whether nothing could be read.
-#[derive(Clone, Copy)]
-pub struct More {
-    pub failed: bool,
-    pub window: Window,
 }
 
 impl Window {
@@ -66,12 +60,11 @@ fn move_to_front(window: Window, buffer: &mut [u8]) -> Window
     }
 }
 
-// The window behind a read that did not fail: of no bytes, where the input has ended.
-fn after_read(window: Window, got: Got) -> Window
-    requires { Fits w64 (window.to + got.count) }
-    ensures { result ≡ with_read window got.count }
+// The window behind a read of so many bytes: of none, where the input has ended.
+fn after_read(window: Window, n: usize) -> Window
+    requires { Fits w64 (window.to + n) }
+    ensures { result ≡ with_read window n }
 {
-    let n = got.count();
     Window {
         from: window.from,
         to: window.to + n,
@@ -79,29 +72,27 @@ fn after_read(window: Window, got: Got) -> Window
     }
 }
 
-// What reading more came to, by what the read gave.
-fn more_of(window: Window, got: Got) -> More
-    requires { Fits w64 (window.to + got.count) }
+// The window behind a read, by what it gave.
+fn more_of(window: Window, got: Got) -> Result<Window, ReadFailed>
+    requires { IfOk got.count (λ n. Fits w64 (window.to + n)) }
     ensures { result ≡ more_of window got }
 {
-    if got.failed() {
-        return More {
-            failed: true,
-            window,
-        };
-    }
-    More {
-        failed: false,
-        window: after_read(window, got),
-    }
+    let n = got.count()?;
+    Ok(after_read(window, n))
 }
 
-// More of the input behind what is not used. It fails where the read does, and where the buffer has no room for more.
-pub fn refill<R: Read>(input: &mut R, window: Window, buffer: &mut [u8]) -> More
-    ensures { RefilledAs result.failed window buffer.old result.window buffer.new }
+// More of the input behind what is not used, which moves to the front. It fails where the read does, and where the buffer has no room for
+// more.
+pub fn refill<R: Read>(
+    input: &mut R,
+    window: &mut Window,
+    buffer: &mut [u8],
+) -> Result<(), ReadFailed>
+    ensures { RefilledAs result window.old buffer.old window.new buffer.new }
 {
-    let front = move_to_front(window, &mut *buffer);
-    let to = front.to;
+    *window = move_to_front(*window, &mut *buffer);
+    let to = window.to;
     let got = read_into(input, &mut buffer[to..]);
-    more_of(front, got)
+    *window = more_of(*window, got)?;
+    Ok(())
 }

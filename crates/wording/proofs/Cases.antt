@@ -1,6 +1,6 @@
 -- Lines, letter by letter: with another number in every column, so that none can stand in another's place.
 -- Assumes nothing.
-use Rattle.std.proofs.Common.{◌≡◌, true, false, pos, negsuc, refl}
+use Rattle.std.proofs.Common.{◌≡◌, ℕ, true, false, pos, negsuc, refl, Option, None, Some}
 use Rattle.codes.specs.declared.Mode.{Mode}
 use Rattle.codes.specs.declared.Mode.TheVariants.{Bypass, Fifo, Stream}
 use Rattle.codes.specs.declared.Range.{Range}
@@ -8,8 +8,7 @@ use Rattle.codes.specs.declared.Range.TheVariants.{G2, G4, G8, G16}
 use Rattle.text.specs.Text.{ascii, decimal, last_digits}
 use Rattle.counts.specs.declared.Account.{Account}
 use Rattle.counts.specs.declared.Doubt.{Doubt}
-use Rattle.counts.specs.declared.Doubt.TheVariants.{No, By}
-use Rattle.counts.specs.declared.Why.TheVariants.{Nothing, Readout, Refused, Reset}
+use Rattle.counts.specs.declared.Why.TheVariants.{Readout, Refused, Reset}
 use Rattle.counts.specs.declared.Why.TheVariants as why
 use Rattle.wording.specs.Wording.{stretch_columns, stretch_line, moded_line, last_line, signed_column, sample_line, wrote_text, refused_line, range_line, mode_line, totals_line, lost_line, no_readout_line, short_line, over_line}
 
@@ -17,7 +16,7 @@ abbrev pub with-both : Range → Mode → Account
 with-both r m = record {
   number = 10;
   counts = record { accepted = 100; taken = 200; lost = 300; cleared = 400; refused = 500; readouts = 600 };
-  doubts = record { range = No; mode = No };
+  doubts = record { range = None; mode = None };
   range = r;
   mode = m;
   held = 7;
@@ -32,7 +31,11 @@ with_mode m = with-both G2 m
 abbrev pub early : Account
 early = with-range G2
 
-abbrev pub doubting : Doubt → Doubt → Account
+-- doubted by a refused write of this byte, in the record of this number
+abbrev pub by : ℕ → ℕ → Option Doubt
+by byte number = Some (record { byte = byte; number = number })
+
+abbrev pub doubting : Option Doubt → Option Doubt → Account
 doubting of_range of_mode = record {
   number = 35;
   counts = record { accepted = 101; taken = 202; lost = 303; cleared = 404; refused = 505; readouts = 606 };
@@ -43,57 +46,57 @@ doubting of_range of_mode = record {
 }
 
 abbrev pub late : Account
-late = doubting (By 0x07 2) (By 0xC1 3)
+late = doubting (by 0x07 2) (by 0xC1 3)
 
 -- with one of them in doubt
 abbrev pub range-doubted : Account
-range-doubted = doubting (By 0x07 2) No
+range-doubted = doubting (by 0x07 2) None
 
 abbrev pub mode-doubted : Account
-mode-doubted = doubting No (By 0xC1 3)
+mode-doubted = doubting None (by 0xC1 3)
 
 -- "FROM TO RANGE ACCEPTED TAKEN LOST CLEARED HELD REFUSED WHY"
-pub stretch : stretch_line early late late Readout ≡ ascii "11 35 16g? 1 2 3 4 32 5 readout\n"
+pub stretch : stretch_line early late late (Some Readout) ≡ ascii "11 35 16g? 1 2 3 4 32 5 readout\n"
 unfolding stretch_columns stretch_line decimal last_digits
 stretch = refl
 
 -- the range is the one before the last record acts
-pub before-it-acts : stretch_line early early late Nothing ≡ ascii "11 35 2g 1 2 3 4 32 5 rest\n"
+pub before-it-acts : stretch_line early early late None ≡ ascii "11 35 2g 1 2 3 4 32 5 rest\n"
 unfolding stretch_columns stretch_line decimal last_digits
 before-it-acts = refl
 
 -- the other ranges, and the other words of what ended a stretch
-pub range-4g : stretch_line early (with-range G4) late why.Range ≡ ascii "11 35 4g 1 2 3 4 32 5 range\n"
+pub range-4g : stretch_line early (with-range G4) late (Some why.Range) ≡ ascii "11 35 4g 1 2 3 4 32 5 range\n"
 unfolding stretch_columns stretch_line decimal last_digits
 range-4g = refl
 
-pub range-8g : stretch_line early (with-range G8) late Refused ≡ ascii "11 35 8g 1 2 3 4 32 5 refused\n"
+pub range-8g : stretch_line early (with-range G8) late (Some Refused) ≡ ascii "11 35 8g 1 2 3 4 32 5 refused\n"
 unfolding stretch_columns stretch_line decimal last_digits
 range-8g = refl
 
-pub range-16g : stretch_line early (with-range G16) late Reset ≡ ascii "11 35 16g 1 2 3 4 32 5 reset\n"
+pub range-16g : stretch_line early (with-range G16) late (Some Reset) ≡ ascii "11 35 16g 1 2 3 4 32 5 reset\n"
 unfolding stretch_columns stretch_line decimal last_digits
 range-16g = refl
 
 -- a stretch with its mode, which is the one before the last record acts
-pub moded : moded_line early late late Readout ≡ ascii "11 35 16g? 1 2 3 4 32 5 readout STREAM?\n"
+pub moded : moded_line early late late (Some Readout) ≡ ascii "11 35 16g? 1 2 3 4 32 5 readout STREAM?\n"
 unfolding stretch_columns moded_line decimal last_digits
 moded = refl
 
-pub moded-before : moded_line early early late Nothing ≡ ascii "11 35 2g 1 2 3 4 32 5 rest BYPASS\n"
+pub moded-before : moded_line early early late None ≡ ascii "11 35 2g 1 2 3 4 32 5 rest BYPASS\n"
 unfolding stretch_columns moded_line decimal last_digits
 moded-before = refl
 
-pub moded-fifo : moded_line early (with_mode Fifo) late Reset ≡ ascii "11 35 2g 1 2 3 4 32 5 reset FIFO\n"
+pub moded-fifo : moded_line early (with_mode Fifo) late (Some Reset) ≡ ascii "11 35 2g 1 2 3 4 32 5 reset FIFO\n"
 unfolding stretch_columns moded_line decimal last_digits
 moded-fifo = refl
 
 -- each `?` is by the doubt of what it stands behind
-pub moded-range-doubted : moded_line early range-doubted late Readout ≡ ascii "11 35 16g? 1 2 3 4 32 5 readout STREAM\n"
+pub moded-range-doubted : moded_line early range-doubted late (Some Readout) ≡ ascii "11 35 16g? 1 2 3 4 32 5 readout STREAM\n"
 unfolding stretch_columns moded_line decimal last_digits
 moded-range-doubted = refl
 
-pub moded-mode-doubted : moded_line early mode-doubted late Readout ≡ ascii "11 35 16g 1 2 3 4 32 5 readout STREAM?\n"
+pub moded-mode-doubted : moded_line early mode-doubted late (Some Readout) ≡ ascii "11 35 16g 1 2 3 4 32 5 readout STREAM?\n"
 unfolding stretch_columns moded_line decimal last_digits
 moded-mode-doubted = refl
 

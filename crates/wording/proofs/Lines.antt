@@ -1,6 +1,6 @@
 -- Texts that are spelt one after the other are one text, and no line is longer than is said.
 -- Assumes nothing.
-use Rattle.std.proofs.Common.{ℕ, ◌+◌, ◌≤◌, Bool, true, false, eqb, List, [], ◌∷◌, ◌++◌, length, ℤ, pos, nat_abs, arith, length-append}
+use Rattle.std.proofs.Common.{ℕ, ◌+◌, ◌≤◌, Bool, true, false, eqb, List, [], ◌∷◌, ◌++◌, length, ℤ, pos, nat_abs, arith, length-append, Option, None, Some}
 use Prim.Native.String.{String}
 use lib.Signed.{lt_z}
 use Rattle.laws.specs.Choice.{pick}
@@ -16,7 +16,6 @@ use Rattle.counts.specs.Counts.{sum, differences}
 use Rattle.counts.specs.declared.Account.{Account}
 use Rattle.counts.specs.declared.Counts.{Counts}
 use Rattle.counts.specs.declared.Doubt.{Doubt}
-use Rattle.counts.specs.declared.Doubt.TheVariants.{No, By}
 use Rattle.counts.specs.declared.Why.{Why}
 use Rattle.counts.specs.declared.Why.TheVariants as why
 use Rattle.wording.specs.Wording.{longest_wording, Spelt, phrase, column, range_word, mode_word, doubt_sign, why_word, counts_text, stretch_columns, stretch_line, moded_line, stopped_at, last_line, signed_column, sample_line, wrote_text, refused_line, because_text, from_text, range_line, frames_word, mode_line, totals_text, held_text, totals_line, ended_word, short_line, over_line, line_text}
@@ -75,24 +74,24 @@ mode-within Fifo = record { short = omega arith }
 mode-within Stream = record { short = omega arith }
 mode-within mode.Reserved = record { short = omega arith }
 
-sign-within : (d : Doubt) → Within 1 (doubt_sign d)
-sign-within No = record { short = omega arith }
-sign-within (By byte n) = record { short = omega arith }
+sign-within : (d : Option Doubt) → Within 1 (doubt_sign d)
+sign-within None = record { short = omega arith }
+sign-within (Some d) = record { short = omega arith }
 
 -- ---- stretches
-why-within : (w : Why) → Within 7 (why_word w)
-why-within why.Nothing = record { short = omega arith }
-why-within why.Readout = record { short = omega arith }
-why-within why.Range = record { short = omega arith }
-why-within why.Refused = record { short = omega arith }
-why-within why.Reset = record { short = omega arith }
+why-within : (w : Option Why) → Within 7 (why_word w)
+why-within None = record { short = omega arith }
+why-within (Some why.Readout) = record { short = omega arith }
+why-within (Some why.Range) = record { short = omega arith }
+why-within (Some why.Refused) = record { short = omega arith }
+why-within (Some why.Reset) = record { short = omega arith }
 
 counts-within : (n : Counts) (held : ℕ) → Within 126 (counts_text n held)
 counts-within n held =
     two (column-within n.accepted)
     (two (column-within n.taken) (two (column-within n.lost) (two (column-within n.cleared) (two (column-within held) (column-within n.refused)))))
 
-columns-within : (from before behind : Account) (w : Why) → Within 180 (stretch_columns from before behind w)
+columns-within : (from before behind : Account) (w : Option Why) → Within 180 (stretch_columns from before behind w)
 unfolding stretch_columns
 columns-within from before behind w =
     two (column-within (sum from.number 1))
@@ -100,13 +99,13 @@ columns-within from before behind w =
     (two (two (range-within before.range) (two (sign-within before.doubts.range) (letters " ")))
     (two (counts-within (differences from.counts behind.counts) behind.held) (why-within w))))
 
-length-stretch : (from before behind : Account) (w : Why) → length (stretch_line from before behind w) ≤ longest_wording
+length-stretch : (from before behind : Account) (w : Option Why) → length (stretch_line from before behind w) ≤ longest_wording
 unfolding stretch_line
 length-stretch from before behind w =
     let line = two (columns-within from before behind w) (letters "\n") in
     omega (arith, line.short)
 
-length-moded : (from before behind : Account) (w : Why) → length (moded_line from before behind w) ≤ longest_wording
+length-moded : (from before behind : Account) (w : Option Why) → length (moded_line from before behind w) ≤ longest_wording
 unfolding moded_line
 length-moded from before behind w =
     let line =
@@ -145,9 +144,9 @@ unfolding wrote_text
 wrote-within n byte address =
     two (phrase-within n " wrote ") (two (hex-within byte) (two (letters " to ") (two (hex-within address) (letters " and was refused"))))
 
-because-within : (d : Doubt) (address : ℕ) → Within 69 (because_text d address)
-because-within No address = record { short = omega arith }
-because-within (By byte n) address = two (letters ", because record ") (two (wrote-within n byte address) (letters "\n"))
+because-within : (d : Option Doubt) (address : ℕ) → Within 69 (because_text d address)
+because-within None address = record { short = omega arith }
+because-within (Some d) address = two (letters ", because record ") (two (wrote-within d.number d.byte address) (letters "\n"))
 
 length-refused : (n byte address refusal : ℕ) → length (refused_line n byte address refusal) ≤ longest_wording
 unfolding refused_line
@@ -220,7 +219,6 @@ length_over begun number refusal =
 
 -- ---- any line
 pub length-line : (l : Line) → length (line_text l) ≤ longest_wording
-length-line line.Nothing = omega arith
 length-line (line.Stretch from before behind w) = length-stretch from before behind w
 length-line (line.Moded from before behind w) = length-moded from before behind w
 length-line (line.Last begun number refusal) = length_last begun number refusal

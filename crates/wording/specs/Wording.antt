@@ -1,6 +1,6 @@
 -- What the answer prints, in ASCII: a line for a stretch, a sample, a range, a mode, a refused write or the totals, and the last line. `from`, `before` and
 -- `behind` are what is known at the end of the stretch before, before the record and behind it.
-use Rattle.std.specs.Prelude.{ℕ, ◌≤◌, Bool, List, [], ◌∷◌, ◌++◌, length, ℤ, pos, ◌==◌, int_lt, unsigned_abs}
+use Rattle.std.specs.Prelude.{ℕ, ◌≤◌, Bool, List, [], ◌∷◌, ◌++◌, length, ℤ, pos, ◌==◌, int_lt, unsigned_abs, Option, None, Some}
 use Prim.Native.String.{String}
 use Rattle.laws.specs.Choice.{pick}
 use Rattle.codes.specs.Addresses.{range_at, control_at}
@@ -14,9 +14,8 @@ use Rattle.counts.specs.Counts.{sum, differences}
 use Rattle.counts.specs.declared.Account.{Account}
 use Rattle.counts.specs.declared.Counts.{Counts}
 use Rattle.counts.specs.declared.Doubt.{Doubt}
-use Rattle.counts.specs.declared.Doubt.TheVariants.{No, By}
 use Rattle.counts.specs.declared.Why.{Why}
-use Rattle.counts.specs.declared.Why.TheVariants.{Nothing, Readout, Refused, Reset}
+use Rattle.counts.specs.declared.Why.TheVariants.{Readout, Refused, Reset}
 use Rattle.counts.specs.declared.Why.TheVariants as why
 use Rattle.wording.specs.declared.Line.{Line}
 use Rattle.wording.specs.declared.Line.TheVariants as line
@@ -53,29 +52,29 @@ mode_word Stream = ascii "STREAM"
 mode_word mode.Reserved = ascii "?"
 
 -- `?` behind a range or a mode "while the last write to 0x0F", or 0x3E, ".. was a refused one"
-abbrev pub doubt_sign : Doubt → List ℕ
-doubt_sign No = []
-doubt_sign (By byte number) = ascii "?"
+abbrev pub doubt_sign : Option Doubt → List ℕ
+doubt_sign None = []
+doubt_sign (Some d) = ascii "?"
 
 -- ---- stretches
 -- the range, and whether it is in doubt
-abbrev pub range_column : Range → Doubt → List ℕ
+abbrev pub range_column : Range → Option Doubt → List ℕ
 range_column r d = range_word r ++ (doubt_sign d ++ ascii " ")
 
 -- the word of what ended a stretch; where nothing did, it is the rest
-abbrev pub why_word : Why → List ℕ
-why_word Nothing = ascii "rest"
-why_word Readout = ascii "readout"
-why_word why.Range = ascii "range"
-why_word Refused = ascii "refused"
-why_word Reset = ascii "reset"
+abbrev pub why_word : Option Why → List ℕ
+why_word None = ascii "rest"
+why_word (Some Readout) = ascii "readout"
+why_word (Some why.Range) = ascii "range"
+why_word (Some Refused) = ascii "refused"
+why_word (Some Reset) = ascii "reset"
 
 -- "ACCEPTED TAKEN LOST CLEARED HELD REFUSED"
 abbrev pub counts_text : Counts → ℕ → List ℕ
 counts_text n held = column n.accepted ++ (column n.taken ++ (column n.lost ++ (column n.cleared ++ (column held ++ column n.refused))))
 
 -- "FROM TO RANGE ACCEPTED TAKEN LOST CLEARED HELD REFUSED WHY"
-unfoldable pub stretch_columns : Account → Account → Account → Why → List ℕ
+unfoldable pub stretch_columns : Account → Account → Account → Option Why → List ℕ
 stretch_columns from before behind w =
     column (sum from.number 1)
     ++ (column behind.number
@@ -83,11 +82,11 @@ stretch_columns from before behind w =
     ++ (counts_text (differences from.counts behind.counts) behind.held
     ++ why_word w)))
 
-unfoldable pub stretch_line : Account → Account → Account → Why → List ℕ
+unfoldable pub stretch_line : Account → Account → Account → Option Why → List ℕ
 stretch_line from before behind w = stretch_columns from before behind w ++ ascii "\n"
 
 -- the same with an eleventh column, MODE
-unfoldable pub moded_line : Account → Account → Account → Why → List ℕ
+unfoldable pub moded_line : Account → Account → Account → Option Why → List ℕ
 moded_line from before behind w =
     stretch_columns from before behind w
     ++ (ascii " "
@@ -127,9 +126,9 @@ unfoldable pub refused_line : ℕ → ℕ → ℕ → ℕ → List ℕ
 refused_line number byte address refusal = ascii "record " ++ (wrote_text number byte address ++ (ascii " " ++ phrase refusal "\n"))
 
 -- why what the register at an address sets is in doubt, where it is
-abbrev pub because_text : Doubt → ℕ → List ℕ
-because_text No address = ascii "\n"
-because_text (By byte number) address = ascii ", because record " ++ (wrote_text number byte address ++ ascii "\n")
+abbrev pub because_text : Option Doubt → ℕ → List ℕ
+because_text None address = ascii "\n"
+because_text (Some d) address = ascii ", because record " ++ (wrote_text d.number d.byte address ++ ascii "\n")
 
 -- from the next record on
 abbrev pub from_text : ℕ → List ℕ
@@ -197,7 +196,6 @@ over_line begun number refusal =
 
 -- ---- a line as data
 abbrev pub line_text : Line → List ℕ
-line_text line.Nothing = []
 line_text (line.Stretch from before behind w) = stretch_line from before behind w
 line_text (line.Moded from before behind w) = moded_line from before behind w
 line_text (line.Last begun number refusal) = last_line begun number refusal

@@ -4,7 +4,6 @@
 
 ghost use Rattle.std.specs.Prelude.{◌≡◌, ◌+◌, ◌≤◌, [], ◌∷◌, ◌++◌, length};
 ghost use Rattle.text.specs.Text.{most_digits, decimal, hex, Pushed, left_in, place_after};
-ghost use Rattle.counts.specs.Counts.{sum};
 ghost use Rattle.wording.specs.Wording.{longest_wording, Spelt, column, range_word, mode_word, doubt_sign, range_column, why_word, counts_text, stretch_columns, stretch_line, moded_line, stopped_at, last_line, signed_column, sample_line, wrote_text, refused_line, because_text, from_text, range_line, frames_word, mode_line, totals_text, held_text, totals_line, ended_word, short_line, over_line, line_text};
 
 use benchlog::lacks_room;
@@ -12,14 +11,13 @@ use codes::{CONTROL_AT, Mode, RANGE_AT, Range};
 use counts::{Account, Counts, Doubt, Why};
 use text::{put_in_hex, put_number, put_word};
 
-// A line, or none.
+// A line.
 #[derive(Clone, Copy)]
 pub enum Line {
-    Nothing,
     // what is known at the end of the stretch before, before its last record and behind it, and why it ended
-    Stretch(Account, Account, Account, Why),
+    Stretch(Account, Account, Account, Option<Why>),
     // the same, with the mode
-    Moded(Account, Account, Account, Why),
+    Moded(Account, Account, Account, Option<Why>),
     // the last line: whether the version byte is past, how many records there are, and the refusal, 0 where there is none
     Last(bool, u64, u8),
     // the range, and the mode, from the next record on
@@ -40,21 +38,14 @@ pub enum Line {
 // No line is longer.
 pub const LONGEST_WORDING: usize = 320;
 
-// The record behind so many.
-fn next(number: u64) -> u64
-    ensures { result ≡ sum number 1 }
-{
-    std::num::wrapping_add_u64(number, 1)
-}
-
 // The record that was refused.
 fn stopped_at(begun: bool, records: u64) -> u64
     ensures { result ≡ stopped_at begun records }
 {
-    if begun { next(records) } else { 0 }
+    if begun { records.wrapping_add(1) } else { 0 }
 }
 
-// ---- pieces, for which there is room
+// ---- pieces, for which there is room. `number` to `put_signed` are alike in sheetlines, which says why they are not shared.
 fn number(out: &mut [u8], at: usize, n: u64) -> usize
     requires { at + most_digits ≤ length out.old }
     ensures { Spelt most_digits out.old at (decimal n) out.new result }
@@ -130,18 +121,18 @@ fn put_frames_word(out: &mut [u8], at: usize, mode: Mode) -> usize
     }
 }
 
-fn put_doubt_sign(out: &mut [u8], at: usize, doubt: Doubt) -> usize
+fn put_doubt_sign(out: &mut [u8], at: usize, doubt: Option<Doubt>) -> usize
     requires { at + 1 ≤ length out.old }
     ensures { Spelt 1 out.old at (doubt_sign doubt) out.new result }
 {
     match doubt {
-        Doubt::No => at,
-        Doubt::By(_, _) => word(out, at, b"?"),
+        None => at,
+        Some(_) => word(out, at, b"?"),
     }
 }
 
 // The range, and whether it is in doubt.
-fn put_range_column(out: &mut [u8], at: usize, range: Range, doubt: Doubt) -> usize
+fn put_range_column(out: &mut [u8], at: usize, range: Range, doubt: Option<Doubt>) -> usize
     requires { at + 5 ≤ length out.old }
     ensures { Spelt 5 out.old at (range_column range doubt) out.new result }
 {
@@ -150,16 +141,16 @@ fn put_range_column(out: &mut [u8], at: usize, range: Range, doubt: Doubt) -> us
     word(out, to, b" ")
 }
 
-fn put_why(out: &mut [u8], at: usize, why: Why) -> usize
+fn put_why(out: &mut [u8], at: usize, why: Option<Why>) -> usize
     requires { at + 7 ≤ length out.old }
     ensures { Spelt 7 out.old at (why_word why) out.new result }
 {
     match why {
-        Why::Nothing => word(out, at, b"rest"),
-        Why::Readout => word(out, at, b"readout"),
-        Why::Range => word(out, at, b"range"),
-        Why::Refused => word(out, at, b"refused"),
-        Why::Reset => word(out, at, b"reset"),
+        None => word(out, at, b"rest"),
+        Some(Why::Readout) => word(out, at, b"readout"),
+        Some(Why::Range) => word(out, at, b"range"),
+        Some(Why::Refused) => word(out, at, b"refused"),
+        Some(Why::Reset) => word(out, at, b"reset"),
     }
 }
 
@@ -202,15 +193,15 @@ fn put_wrote(out: &mut [u8], at: usize, nth: u64, byte: u8, address: u8) -> usiz
 }
 
 // Why there is doubt, where there is, and the line's end.
-fn put_because(out: &mut [u8], at: usize, doubt: Doubt, address: u8) -> usize
+fn put_because(out: &mut [u8], at: usize, doubt: Option<Doubt>, address: u8) -> usize
     requires { at + 69 ≤ length out.old }
     ensures { Spelt 69 out.old at (because_text doubt address) out.new result }
 {
-    let Doubt::By(byte, nth) = doubt else {
+    let Some(doubt) = doubt else {
         return word(out, at, b"\n");
     };
     let to = word(&mut *out, at, b", because record ");
-    let to = put_wrote(&mut *out, to, nth, byte, address);
+    let to = put_wrote(&mut *out, to, doubt.number, doubt.byte, address);
     word(out, to, b"\n")
 }
 
@@ -220,7 +211,7 @@ fn put_from(out: &mut [u8], at: usize, nth: u64) -> usize
     ensures { Spelt 34 out.old at (from_text nth) out.new result }
 {
     let to = word(&mut *out, at, b"from record ");
-    phrase(out, to, next(nth), b": ")
+    phrase(out, to, nth.wrapping_add(1), b": ")
 }
 
 fn put_totals_text(out: &mut [u8], at: usize, counts: Counts) -> usize
@@ -261,19 +252,16 @@ fn put_columns(
     from: Account,
     before: Account,
     behind: Account,
-    why: Why,
+    why: Option<Why>,
 ) -> usize
     requires { at + 180 ≤ length out.old }
     ensures { Spelt 180 out.old at (stretch_columns from before behind why) out.new result }
 {
-    let counts = behind.counts;
-    let range = before.range;
-    let doubts = before.doubts;
-    let doubt = doubts.range;
-    let to = put_column(&mut *out, at, next(from.number));
+    let to = put_column(&mut *out, at, from.number.wrapping_add(1));
     let to = put_column(&mut *out, to, behind.number);
-    let to = put_range_column(&mut *out, to, range, doubt);
-    let to = put_counts(&mut *out, to, counts.since(from.counts), behind.held);
+    let to = put_range_column(&mut *out, to, before.range, before.doubts.range);
+    let between = behind.counts.since(from.counts);
+    let to = put_counts(&mut *out, to, between, behind.held);
     put_why(out, to, why)
 }
 
@@ -284,7 +272,7 @@ fn write_stretch(
     from: Account,
     before: Account,
     behind: Account,
-    why: Why,
+    why: Option<Why>,
 ) -> usize
     requires { at + longest_wording ≤ length out.old }
     ensures { Pushed out.old at (stretch_line from before behind why) out.new result }
@@ -299,18 +287,15 @@ fn write_moded(
     from: Account,
     before: Account,
     behind: Account,
-    why: Why,
+    why: Option<Why>,
 ) -> usize
     requires { at + longest_wording ≤ length out.old }
     ensures { Pushed out.old at (moded_line from before behind why) out.new result }
 {
-    let mode = before.mode;
-    let doubts = before.doubts;
-    let doubt = doubts.mode;
     let to = put_columns(&mut *out, at, from, before, behind, why);
     let to = word(&mut *out, to, b" ");
-    let to = put_mode_word(&mut *out, to, mode);
-    let to = put_doubt_sign(&mut *out, to, doubt);
+    let to = put_mode_word(&mut *out, to, before.mode);
+    let to = put_doubt_sign(&mut *out, to, before.doubts.mode);
     word(out, to, b"\n")
 }
 
@@ -353,11 +338,9 @@ fn write_range(out: &mut [u8], at: usize, account: Account) -> usize
     requires { at + longest_wording ≤ length out.old }
     ensures { Pushed out.old at (range_line account) out.new result }
 {
-    let range = account.range;
-    let doubts = account.doubts;
-    let doubt = doubts.range;
+    let doubt = account.doubts.range;
     let to = put_from(&mut *out, at, account.number);
-    let to = put_range_word(&mut *out, to, range);
+    let to = put_range_word(&mut *out, to, account.range);
     let to = put_doubt_sign(&mut *out, to, doubt);
     put_because(out, to, doubt, RANGE_AT as u8)
 }
@@ -366,13 +349,11 @@ fn write_mode(out: &mut [u8], at: usize, account: Account) -> usize
     requires { at + longest_wording ≤ length out.old }
     ensures { Pushed out.old at (mode_line account) out.new result }
 {
-    let mode = account.mode;
-    let doubts = account.doubts;
-    let doubt = doubts.mode;
+    let doubt = account.doubts.mode;
     let to = put_from(&mut *out, at, account.number);
-    let to = put_mode_word(&mut *out, to, mode);
+    let to = put_mode_word(&mut *out, to, account.mode);
     let to = put_doubt_sign(&mut *out, to, doubt);
-    let to = put_frames_word(&mut *out, to, mode);
+    let to = put_frames_word(&mut *out, to, account.mode);
     put_because(out, to, doubt, CONTROL_AT as u8)
 }
 
@@ -390,11 +371,10 @@ fn write_totals(out: &mut [u8], at: usize, from: Account, upto: Account) -> usiz
     requires { at + longest_wording ≤ length out.old }
     ensures { Pushed out.old at (totals_line from upto) out.new result }
 {
-    let counts = upto.counts;
     let to = word(&mut *out, at, b"records ");
-    let to = phrase(&mut *out, to, next(from.number), b" to ");
+    let to = phrase(&mut *out, to, from.number.wrapping_add(1), b" to ");
     let to = phrase(&mut *out, to, upto.number, b": ");
-    let between = counts.since(from.counts);
+    let between = upto.counts.since(from.counts);
     let to = put_totals_text(&mut *out, to, between);
     put_held(out, to, from.held, upto.held, between.refused)
 }
@@ -427,7 +407,6 @@ fn write_line(out: &mut [u8], at: usize, line: Line) -> usize
     ensures { Pushed out.old at (line_text line) out.new result }
 {
     match line {
-        Line::Nothing => at,
         Line::Stretch(from, before, behind, why) => write_stretch(
             out, at, from, before, behind, why,
         ),
@@ -451,7 +430,7 @@ fn write_line(out: &mut [u8], at: usize, line: Line) -> usize
 }
 
 // ---- lines from a place on: the place behind it. Where there may not be room nothing is written and the place is given back
-// A line, or nothing.
+// A line.
 pub fn put_line(out: &mut [u8], at: usize, line: Line) -> usize
     ensures { (result ≡ place_after longest_wording out.old at (line_text line)) × (out.new ≡ left_in longest_wording out.old at (line_text line)) }
 {

@@ -1,12 +1,13 @@
 -- What the turns did before, and the last of them, come to the end of the pump.
 use Rattle.std.proofs.Common.{arith, ◌≡◌, length, ◌<◌, [], refl, sym, ◌∙◌}
-use Rattle.stream.specs.Pump.{none}
+use Rattle.jobs.specs.Follower.{worker}
+use Rattle.stream.specs.Pump.{most_turns, none}
 use Rattle.stream.proofs.Turns.{turned_on}
 use Rattle.stream.proofs.Ends.{ends, one_on}
 use Rattle.stream.proofs.pump.Goals as goal
 
-pub loop-turns-init : goal.loop-turns-init
-loop-turns-init g c = record {
+pub loop-init : goal.loop-init
+loop-init g c = record {
   within = rw c.begin-state.ensures (omega arith, omega arith);
   room = c.large_buffer-buffer.ensures;
   text = c.large_buffer-text.ensures;
@@ -16,33 +17,32 @@ loop-turns-init g c = record {
 
 pub returns-then-not-goes_on : goal.returns-then-not-goes_on
 returns-then-not-goes_on g c =
-    let loop = c.loop-turns in
+    let loop = c.loop in
     let turn = c.turn-turned in
     let off = sym c.goes_on.ensures ∙ c.if-not-goes_on.true in
     rw c.ended_at.ensures
-    (ends _ c.args.job _ loop.state loop.buffer (length loop.text) turn.result.state turn.new.buffer loop.invariant.came turn.result.how off turn.ensures)
+    (ends (worker g.F.Follower.following) g.met.F.Follower.lawful c.args.follower _ loop.state loop.buffer (length loop.text) turn.result.state turn.new.buffer loop.invariant.came turn.result.how off turn.ensures)
 
-pub loop-turns-preserved : goal.loop-turns-preserved
-loop-turns-preserved g c =
-    let loop = c.loop-turns in
+pub loop-preserved : goal.loop-preserved
+loop-preserved g c =
+    let loop = c.loop in
     let turn = c.turn-turned in
     let on = sym c.goes_on.ensures ∙ c.if-not-goes_on.false in
     let b = turn.auto.buffer in
     let t = turn.auto.text in
     let went = turned_on _ turn.result.how loop.state loop.buffer (length loop.text) turn.result.state turn.new.buffer on turn.ensures in
-    let some : 0 < loop.turns = omega arith in
     record {
       within = (went.1.0, omega (arith, went.1.1, b));
       room = loop.invariant.room ∙ sym b;
       text = loop.invariant.text ∙ sym t;
-      came = one_on 18446744073709551615 loop.turns (length loop.text) some loop.invariant.few loop.invariant.came went.0;
-      few = omega (arith, loop.invariant.few);
+      came = one_on loop.counter (length loop.text) loop.invariant.came went.0;
+      few = omega (arith, c.loop-test.true);
     }
 
 pub returns : goal.returns
 returns g c =
-    let loop = c.loop-turns in
-    let over : loop.turns ≡ 0 = omega arith in
+    let loop = c.loop in
+    let over : loop.counter ≡ most_turns = omega (arith, c.loop-test.false, loop.invariant.few) in
     let came = rw over at loop.invariant.came in
     rw c.ended_at-2.ensures
     (record { parts = came.parts; blocks = came.blocks; state = loop.state; held = loop.buffer; done = came.done; ended_is = refl })

@@ -3,4 +3,4 @@ use Rattle.window.proofs.Places.{unused-part}
 use Rattle.stream.proofs.run_over.Goals as goal
 
 pub returns : goal.returns
-returns c = rw (unused-part c.args.state.window c.args.buffer.now c.requires) at c.run.ensures
+returns g c = rw (unused-part c.args.state.window c.args.buffer.now c.requires) at c.run.ensures

@@ -7,6 +7,6 @@ unfolding totals_line
 returns c =
     let between = c.since-between.ensures in
     (spelt-two c.word-to.ensures
-    (spelt-two (rw c.next.ensures at c.phrase-to.ensures)
+    (spelt-two c.phrase-to.ensures
     (spelt-two c.phrase-to-2.ensures
     (spelt-two (rw between at c.put_totals_text-to.ensures) (rw between at c.put_held.ensures))))).pushed

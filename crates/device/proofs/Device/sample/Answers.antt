@@ -5,4 +5,4 @@ use Rattle.device.proofs.Device.sample.Goals as goal
 pub returns : goal.returns
 returns c =
     let f = c.ranges in
-    c.answered.ensures ∙ (rw (c.core-core.ensures, to_z-of_z f.x, to_z-of_z f.y, to_z-of_z f.z) at c.sample-done.ensures)
+    c.answered.ensures ∙ (rw (c.core.ensures, to_z-of_z f.x, to_z-of_z f.y, to_z-of_z f.z) at c.sample-done.ensures)

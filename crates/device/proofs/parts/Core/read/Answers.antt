@@ -17,7 +17,7 @@ returns-else-address-eq-FRAMES_AT c =
     let a = c.args in
     let f = c.burst-self.ensures in
     let e = c.bit-locks.ensures in
-    let s = c.alarms.ensures in
+    let s = c.inside.ensures in
     burst-is (whole a.self a.regs.now a.frames.now) _ a.buffer.now _ c.read_answer-answer.ensures (sym c.is_accepted.ensures ∙ c.if-is_accepted.true)
     (ne_eqb _ _ c.if-address-eq-FRAMES_AT.false) _ _ (f.0 ∙ rw e) (f.1 ∙ rw (e, s))
 
