@@ -1,7 +1,7 @@
 // Q-8: the sheet of a month as text, written into a lent buffer: nineteen lines, for all of which there is room or none is begun.
 #![tactic(auto)]
 
-ghost use Rattle.std.specs.Prelude.{◌≡◌, ◌++◌, ◌+◌, ◌*◌, ◌≤◌, nat_abs, length};
+ghost use Rattle.std.specs.Prelude.{◌≡◌, ◌++◌, ◌+◌, ◌*◌, ◌≤◌, length};
 ghost use Rattle.text.specs.Text.{most_digits, decimal, left_in, place_after};
 ghost use Rattle.wording.specs.Wording.{Spelt, column, signed_column};
 ghost use Rattle.measure.specs.Measure.{g_text};
@@ -16,17 +16,8 @@ use text::{put_number, put_word};
 // No month has a longer text.
 pub const LONGEST_SHEET: usize = 1867;
 
-// How far a number is from 0: the least of all too.
-fn size_of(n: i64) -> u64
-    ensures { result ≡ nat_abs n }
-{
-    if n < 0 {
-        return (0 - (n + 1)) as u64 + 1;
-    }
-    n as u64
-}
-
-// ---- pieces, for which there is room
+// ---- pieces, for which there is room. `number` to `put_signed` are alike in wording: they ask for room, as no public function does, and shared they
+// would look for it again at each piece.
 fn number(out: &mut [u8], at: usize, n: u64) -> usize
     requires { at + most_digits ≤ length out.old }
     ensures { Spelt most_digits out.old at (decimal n) out.new result }
@@ -73,9 +64,9 @@ fn put_signed(out: &mut [u8], at: usize, n: i64) -> usize
 {
     if n < 0 {
         let to = word(&mut *out, at, b"-");
-        return put_column(out, to, size_of(n));
+        return put_column(out, to, n.unsigned_abs());
     }
-    put_column(out, at, size_of(n))
+    put_column(out, at, n.unsigned_abs())
 }
 
 // ---- lines, for which there is room

@@ -45,7 +45,7 @@ fn stopped_at(begun: bool, records: u64) -> u64
     if begun { records.wrapping_add(1) } else { 0 }
 }
 
-// ---- pieces, for which there is room
+// ---- pieces, for which there is room. `number` to `put_signed` are alike in sheetlines, which says why they are not shared.
 fn number(out: &mut [u8], at: usize, n: u64) -> usize
     requires { at + most_digits ≤ length out.old }
     ensures { Spelt most_digits out.old at (decimal n) out.new result }
