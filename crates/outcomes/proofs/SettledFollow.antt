@@ -2,10 +2,14 @@
 -- Assumes nothing.
 use mathlib.Core.Path.{refl}
 use Rattle.laws.specs.Outcome.{Settled}
+use Rattle.follow.specs.contracts.HaltFromRefusal.from as halt-of-refusal
 use Rattle.follow.specs.contracts.open_log as open-log
 use Rattle.follow.specs.contracts.seek as seek
 use Rattle.follow.specs.contracts.HaltFromRefusal.from as halt-of-refusal
 use Rattle.outcomes.proofs.Plain.{plain}
+
+halt-of-refusal-settled : Settled halt-of-refusal.ended (λ M 𝓤. halt-of-refusal.clauses) (λ M 𝓤. halt-of-refusal.spec)
+halt-of-refusal-settled = plain (λ κs a s s'. refl)
 
 open-log-settled : Settled open-log.ended (λ M 𝓤. open-log.clauses) (λ M 𝓤. open-log.spec)
 open-log-settled = plain (λ κs a s s'. refl)

@@ -36,11 +36,9 @@ pub struct Stepped {
 fn numbered(done: CoreAnswered) -> Stepped
     ensures { result ≡ record { number = number done.answer; core = done.core } }
 {
-    let answer = done.answer;
-    let core = done.core;
     Stepped {
-        number: number_of(answer),
-        core,
+        number: number_of(done.answer),
+        core: done.core,
     }
 }
 
@@ -94,9 +92,7 @@ pub fn pins_code(core: Core, regs: [u8; 64]) -> u8
     ensures { (frames : List ℕ) → result ≡ pins_code (whole core regs frames) }
 {
     let pins = core.pins(&regs);
-    let first = pins.int1;
-    let second = pins.int2;
-    level_code(first) + 4 * level_code(second)
+    level_code(pins.int1) + 4 * level_code(pins.int2)
 }
 
 impl Harness {
@@ -105,10 +101,11 @@ impl Harness {
         ensures { device_in result ≡ power_up }
     {
         let device = Device::power_up();
-        let regs = device.registers();
-        let core = device.core();
-        let frames = device.frames();
-        Harness { regs, core, frames }
+        Harness {
+            regs: device.registers(),
+            core: device.core(),
+            frames: device.frames(),
+        }
     }
 }
 
