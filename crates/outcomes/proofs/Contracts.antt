@@ -5,7 +5,7 @@
 use Prim.Native.Nat.{ℕ}
 use mathlib.Core.Bool.{Bool, true, false}
 use mathlib.Core.List.{List, []}
-use mathlib.Core.Path.{◌≡◌, refl, sym, ap, subst, ◌∙◌}
+use mathlib.Core.Path.{◌≡◌, refl, sym, ap}
 use contract.Lifetimes.{Lfts}
 use denote.Triple.Clauses.{Ended, AtExit}
 use denote.Triple.Entry.{Args, Res}
@@ -32,7 +32,6 @@ use Rattle.follow.specs.declared.Halt.{Halt}
 use Rattle.follow.specs.declared.Halt.TheVariants.{Wait, Full, Stop}
 use Rattle.follow.specs.contracts.open_log as open-log
 use Rattle.follow.specs.contracts.seek as seek
-use Rattle.benchlog.specs.contracts.Entry as record-type
 use Rattle.device.specs.contracts.Device.write as write-contract
 use Rattle.device.specs.contracts.Device.read as read-contract
 use Rattle.device.specs.contracts.Device.sample as sample-contract
@@ -51,7 +50,6 @@ use Rattle.logwriter.specs.contracts.write_entry as write-entry
 use Rattle.outcomes.specs.LogNumbers.{NoRoomForVersion, NoRoomForRecord}
 use Rattle.outcomes.specs.Demand1.{◌when◌else◌, done, DueOn, DueAtStart, DueAtPlace, Tabled, next_place, place_behind, Askable}
 use Rattle.outcomes.specs.Promises.{Promises}
-use Rattle.outcomes.proofs.Words.{no}
 use Rattle.outcomes.proofs.LogRefusals.{encode-spelled}
 use Rattle.outcomes.proofs.Demand1.{demand1}
 
@@ -178,7 +176,7 @@ module _ (log : List ℕ) (at room : ℕ) (last : Bool) where
       go : (t u : Bool) (f : FoundAt) → DueAtPlace here (found_number f)
           → where_stopped (DueAtPlace here) (as_sought (step_where (pick t (Err Full) (pick u (Ok tt) (Err Wait))) (step_as (look_of f) at)))
       go true u f due = tt
-      go false true (Ok (Some read)) due = tt
+      go false true (Ok (Some found)) due = tt
       go false true (Ok None) due = due
       go false true (Err refusal) due = due
       go false false f due = tt

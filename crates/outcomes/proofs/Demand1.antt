@@ -18,7 +18,7 @@ use Rattle.events.specs.Event.{Event, power_up, write, read, sample, cycle, cloc
 use Rattle.events.specs.Run.{next}
 use Rattle.events.specs.Views.{at_read}
 use Rattle.events.proofs.Given.{read-gives}
-use Rattle.benchlog.specs.Answers.{refusal_number, found_number, begins_number, room_number}
+use Rattle.benchlog.specs.Answers.{found_number, begins_number, room_number}
 use Rattle.benchlog.specs.Format.{version, version_field}
 use Rattle.benchlog.specs.Reader.{FoundAt, read_at, read_version}
 use Rattle.benchlog.specs.Walk.{item, none, walk, behind_version, walk_log}
@@ -200,7 +200,7 @@ module _ (log : List ℕ) (place : ℕ) where
   place-stays = go (read_at log place)
     where
       go : (f : FoundAt) → found_number f ≢ 0 → place_behind place f ≡ place
-      go (Ok (Some read)) h = absurd (h refl)
+      go (Ok (Some found)) h = absurd (h refl)
       go (Ok None) h = refl
       go (Err refusal) h = refl
 

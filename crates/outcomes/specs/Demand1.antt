@@ -87,7 +87,7 @@ next_place place (Ok next) = next
 next_place place (Err refusal) = place
 
 abbrev pub place_behind : ℕ → FoundAt → ℕ
-place_behind place (Ok (Some read)) = read.next
+place_behind place (Ok (Some found)) = found.next
 place_behind place (Ok None) = place
 place_behind place (Err refusal) = place
 
