@@ -1,5 +1,5 @@
 // Q-8: a sheet of many logs in numbers, and two of them joined. All is exact, in 64 bits: counts and clock unsigned, sums signed. Where a total would not
-// fit, the first of two stays as it is. It rests on no device: who makes a sheet of a log gives what came.
+// fit, a join gives none, and the first of two stays with its caller as it is. It rests on no device: who makes a sheet of a log gives what came.
 #![tactic(auto)]
 
 ghost use Rattle.std.specs.Prelude.{◌≡◌};
@@ -72,7 +72,7 @@ impl From<TooLarge> for u8 {
     }
 }
 
-// ---- totals
+// ---- totals. No trait for the joins: each names its own fields, and nothing is generic over a total
 #[tactic(auto, unfolding(crate::specs::Sheets::count_fits, crate::specs::Sheets::count_joined))]
 pub fn join_counts(count: u64, more: u64) -> Result<u64, TooLarge>
     ensures { result ≡ count_joined count more }
@@ -167,12 +167,11 @@ impl ByRange {
     pub fn joined(self, more: ByRange) -> Result<Self, TooLarge>
         ensures { result ≡ ranges_joined self more }
     {
-        Ok(ByRange {
-            g2: self.g2.joined(more.g2)?,
-            g4: self.g4.joined(more.g4)?,
-            g8: self.g8.joined(more.g8)?,
-            g16: self.g16.joined(more.g16)?,
-        })
+        let g2 = self.g2.joined(more.g2)?;
+        let g4 = self.g4.joined(more.g4)?;
+        let g8 = self.g8.joined(more.g8)?;
+        let g16 = self.g16.joined(more.g16)?;
+        Ok(ByRange { g2, g4, g8, g16 })
     }
 }
 
