@@ -90,8 +90,7 @@ finds-next before rest e p =
 finds-all : (es : List Entry) → AllFieldsFit es → (before : List ℕ) → FindsAll (before ++ all_spelled es) (length before) es
 finds-all [] p before = rw (append-nil before, drop-length before, head-end (length before))
 finds-all (e ∷ es) p before =
-    let on = finds-all es p.1 (before ++ spelled e) in
-    (
+    let on = finds-all es p.1 (before ++ spelled e) in (
       length before + length (spelled e),
       (finds-next before (all_spelled es) e p.0, rw (append_assoc before (spelled e) (all_spelled es), length-append before (spelled e)) at on),
     )

@@ -6,9 +6,9 @@ use mathlib.Core.List.{List, ◌∷◌}
 use mathlib.Core.Path.{◌≡◌, refl, ◌∙◌}
 use lib.Dec.{eqb}
 use lib.ListN.{length}
-use Rattle.laws.specs.Choice.{pick, both, either}
+use Rattle.laws.specs.Choice.{either}
 use Rattle.events.specs.Event.{Event, power_up, write, read, sample, cycle, clock}
-use Rattle.paper.specs.Stored.{is_soft_reset, byte_by, is_accepted}
+use Rattle.paper.specs.Stored.{is_soft_reset, byte_by}
 use Rattle.recorded.specs.Recorded.{Recorded, events_of, before_own}
 use Rattle.counts.specs.declared.Doubt.{Doubt}
 use Rattle.std.proofs.Common.{Option}
