@@ -11,12 +11,13 @@ pub struct Alarm {
     status: bool,
     mark: u8,
     negative: bool,
-    // in microseconds; 0 where no time is running
+    // in microseconds; 0 where no time is running, as the rules of a clock name it; an `Option` would not leave the alarm its 8 bytes,
+    // which move as one
     remaining: u32,
 }
 
 // What a clock does to an alarm: it stands, with less time remaining if some was running; or its time is reached, and so many
-// microseconds of the clock come after that.
+// microseconds of the clock come after that. Neither is a failure of the other, so this is no `Result`.
 #[derive(Clone, Copy)]
 pub enum Lapse {
     Stands(Alarm),
@@ -66,15 +67,13 @@ impl Alarm {
     pub fn clock(mut self, microseconds: u32) -> Lapse
         ensures { result ≡ lapse_of microseconds self }
     {
-        let remaining = self.remaining;
-        if remaining == 0 {
+        if self.remaining == 0 {
             return Lapse::Stands(self);
         }
-        let reached = microseconds >= remaining;
-        if reached {
-            return Lapse::Expires(microseconds - remaining);
+        if microseconds >= self.remaining {
+            return Lapse::Expires(microseconds - self.remaining);
         }
-        self.remaining = remaining - microseconds;
+        self.remaining -= microseconds;
         Lapse::Stands(self)
     }
 

@@ -13,7 +13,12 @@ use std::process::ExitCode;
 use stream::Ended;
 
 // How the answer that was asked for came to its end.
-fn tell_answered<E: Write>(rt: &HostRuntime, errors: &mut E, wanted: Option<Asked>, ended: Ended<Answering>)
+fn tell_answered<E: Write>(
+    rt: &HostRuntime,
+    errors: &mut E,
+    wanted: Option<Asked>,
+    ended: Ended<Answering>,
+)
     requires { AnsweredAs wanted ended }
 {
     ending::tell_end(rt, errors, b"answer", ended);

@@ -14,7 +14,8 @@ pub struct Codes {
 }
 
 // One axis: the present sample's code, whether it is new, and the upper byte that a lock holds. The code takes 32 bits, so that a channel
-// has 8 bytes and moves as one number.
+// has 8 bytes and moves as one number; lock and byte stand apart, since the theorem on the data channels speaks of each
+// (`rules/proofs/Channels: Shows`).
 #[repr(C)]
 #[derive(Clone, Copy)]
 pub struct Channel {
@@ -36,19 +37,14 @@ pub struct Channels {
 pub fn in_range(sample: i16) -> bool
     ensures { result ≡ in_range sample }
 {
-    if sample < -2048 { false } else { sample < 2048 }
+    -2048 <= sample && sample < 2048
 }
 
-// The low twelve bits of a sample. A remainder has its sample's sign, so that of a negative one is lifted.
+// The low twelve bits of a sample.
 pub fn code_of(sample: i16) -> u32
     ensures { result ≡ code sample }
 {
-    let rest = sample as i32 % 4096;
-    if rest >= 0 {
-        rest as u32
-    } else {
-        (rest + 4096) as u32
-    }
+    sample.cast_unsigned() as u32 % 4096
 }
 
 pub fn codes_of(x: i16, y: i16, z: i16) -> Codes
@@ -147,12 +143,9 @@ impl Channels {
     pub fn sample(mut self, codes: Codes) -> Self
         ensures { result ≡ sampled codes self }
     {
-        let x = self.x;
-        let y = self.y;
-        let z = self.z;
-        self.x = x.sample(codes.x);
-        self.y = y.sample(codes.y);
-        self.z = z.sample(codes.z);
+        self.x = self.x.sample(codes.x);
+        self.y = self.y.sample(codes.y);
+        self.z = self.z.sample(codes.z);
         self
     }
 
@@ -160,12 +153,9 @@ impl Channels {
     pub fn release(mut self) -> Self
         ensures { result ≡ released self }
     {
-        let x = self.x;
-        let y = self.y;
-        let z = self.z;
-        self.x = x.unlock();
-        self.y = y.unlock();
-        self.z = z.unlock();
+        self.x = self.x.unlock();
+        self.y = self.y.unlock();
+        self.z = self.z.unlock();
         self
     }
 
@@ -173,16 +163,13 @@ impl Channels {
     pub fn byte(self, address: usize) -> u8
         ensures { result ≡ byte_at self address }
     {
-        let x = self.x;
-        let y = self.y;
-        let z = self.z;
         match address {
-            0x02 => x.lsb(),
-            0x03 => x.msb(),
-            0x04 => y.lsb(),
-            0x05 => y.msb(),
-            0x06 => z.lsb(),
-            0x07 => z.msb(),
+            0x02 => self.x.lsb(),
+            0x03 => self.x.msb(),
+            0x04 => self.y.lsb(),
+            0x05 => self.y.msb(),
+            0x06 => self.z.lsb(),
+            0x07 => self.z.msb(),
             _ => 0,
         }
     }
@@ -191,16 +178,13 @@ impl Channels {
     pub fn after_read(mut self, locks: bool, address: usize) -> Self
         ensures { result ≡ after_read locks address self }
     {
-        let x = self.x;
-        let y = self.y;
-        let z = self.z;
         match address {
-            0x02 => self.x = x.after_lsb(locks),
-            0x03 => self.x = x.unlock(),
-            0x04 => self.y = y.after_lsb(locks),
-            0x05 => self.y = y.unlock(),
-            0x06 => self.z = z.after_lsb(locks),
-            0x07 => self.z = z.unlock(),
+            0x02 => self.x = self.x.after_lsb(locks),
+            0x03 => self.x = self.x.unlock(),
+            0x04 => self.y = self.y.after_lsb(locks),
+            0x05 => self.y = self.y.unlock(),
+            0x06 => self.z = self.z.after_lsb(locks),
+            0x07 => self.z = self.z.unlock(),
             _ => {}
         }
         self

@@ -115,8 +115,7 @@ pub enum Axes {
 pub fn range_of(byte: u8) -> Range
     ensures { result ≡ range_of byte }
 {
-    let code = byte % 16;
-    match code {
+    match byte % 16 {
         0b0011 => Range::G2,
         0b0101 => Range::G4,
         0b1000 => Range::G8,
@@ -128,13 +127,7 @@ pub fn range_of(byte: u8) -> Range
 pub fn is_reserved_range(range: Range) -> bool
     ensures { result ≡ is_reserved_range range }
 {
-    match range {
-        Range::G2 => false,
-        Range::G4 => false,
-        Range::G8 => false,
-        Range::G16 => false,
-        Range::Reserved => true,
-    }
+    matches!(range, Range::Reserved)
 }
 
 // The latch mode of a byte of 0x21. Of the sixteen codes 1111 is what the list leaves.
@@ -142,8 +135,7 @@ pub fn is_reserved_range(range: Range) -> bool
 pub fn latch_of(byte: u8) -> Latch
     ensures { result ≡ latch_of byte }
 {
-    let code = byte % 16;
-    match code {
+    match byte % 16 {
         0b0000 => Latch::Unlatched,
         0b0001 => Latch::Timed(250_000),
         0b0010 => Latch::Timed(500_000),
@@ -166,20 +158,15 @@ pub fn latch_of(byte: u8) -> Latch
 pub fn is_unlatched(latch: Latch) -> bool
     ensures { result ≡ is_unlatched latch }
 {
-    match latch {
-        Latch::Unlatched => true,
-        Latch::Latched => false,
-        Latch::Timed(_) => false,
-    }
+    matches!(latch, Latch::Unlatched)
 }
 
-// How long a status is held, in microseconds; 0 where no time clears it.
+// How long a status is held, in microseconds; 0 where no time clears it, as an alarm's time and the theorems on it have it.
 pub fn hold_of(latch: Latch) -> u32
     ensures { result ≡ hold_of latch }
 {
     match latch {
-        Latch::Unlatched => 0,
-        Latch::Latched => 0,
+        Latch::Unlatched | Latch::Latched => 0,
         Latch::Timed(microseconds) => microseconds,
     }
 }
@@ -189,8 +176,7 @@ pub fn hold_of(latch: Latch) -> u32
 pub fn mode_of(byte: u8) -> Mode
     ensures { result ≡ mode_of byte }
 {
-    let code = byte / 64;
-    match code {
+    match byte / 64 {
         0b00 => Mode::Bypass,
         0b01 => Mode::Fifo,
         0b10 => Mode::Stream,
@@ -201,12 +187,7 @@ pub fn mode_of(byte: u8) -> Mode
 pub fn is_reserved_mode(mode: Mode) -> bool
     ensures { result ≡ is_reserved_mode mode }
 {
-    match mode {
-        Mode::Bypass => false,
-        Mode::Fifo => false,
-        Mode::Stream => false,
-        Mode::Reserved => true,
-    }
+    matches!(mode, Mode::Reserved)
 }
 
 // The axes of a byte of 0x3E.
@@ -214,8 +195,7 @@ pub fn is_reserved_mode(mode: Mode) -> bool
 pub fn axes_of(byte: u8) -> Axes
     ensures { result ≡ axes_of byte }
 {
-    let code = byte % 4;
-    match code {
+    match byte % 4 {
         0b00 => Axes::All,
         0b01 => Axes::X,
         0b10 => Axes::Y,
@@ -230,7 +210,7 @@ pub fn wait_code(byte: u8) -> u8
     byte / 4 % 64
 }
 
-// For how many microseconds no-motion waits by a code; 0 for a code without a meaning.
+// For how many microseconds no-motion waits by a code; 0 for a code without a meaning, as the theorems on no-motion name it.
 #[tactic(auto, unfolding(crate::specs::Wait::wait_of))]
 pub fn wait_of(code: u8) -> u32
     ensures { result ≡ wait_of code }

@@ -63,21 +63,25 @@ detectors_sampled regs x y z d = record {
 unfoldable pub detectors_clocked : ℕ → Detectors → Detectors
 detectors_clocked us d = record { previous = d.previous; motion = clocked us d.motion; gravity = both_clocked us d.gravity; slow = slow.clocked us d.slow }
 
+-- what a write leaves of a part, where it may restart it
+abbrev pub written : {A : Type 0} → (A → A) → Bool → A → A
+written restarted restarts d = pick restarts (restarted d) d
+
 -- of a write: "0x0F also forgets the previous sample"
 abbrev pub previous_written : Bool → Previous → Previous
-previous_written forgets p = pick forgets (forgotten p) p
+previous_written = written forgotten
 
 -- "clears status, marks and runs"
 abbrev pub motion_written : Bool → Motion → Motion
-motion_written restarts m = pick restarts (restarted m) m
+motion_written = written restarted
 
 -- Q-5: "restarts them: status, marks and runs clear"
 abbrev pub gravity_written : Bool → Gravity → Gravity
-gravity_written restarts g = pick restarts (both_restarted g) g
+gravity_written = written both_restarted
 
 -- Q-6: "restarts it"
 abbrev pub slow_written : Bool → Slow → Slow
-slow_written restarts s = pick restarts (slow.restarted s) s
+slow_written = written slow.restarted
 
 -- a write; soft reset makes all as at power-up
 unfoldable pub detectors_written : Deeds → Detectors → Detectors

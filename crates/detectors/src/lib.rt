@@ -65,7 +65,8 @@ fn motion_sampled(
     motion.sample(motion_settings(regs), slopes)
 }
 
-// What slow motion and no-motion go by.
+// What slow motion and no-motion go by. The names of the fields say which byte is which; one function for both would be handed three bytes
+// in a row.
 fn slow_settings(regs: &[u8; 64]) -> Settings
     ensures { result ≡ detectors.slow_settings regs.now }
 {
@@ -79,7 +80,8 @@ fn slow_settings(regs: &[u8; 64]) -> Settings
     }
 }
 
-// Slow motion and no-motion after an accepted sample, as any-motion.
+// Slow motion and no-motion after an accepted sample, as any-motion. One function for both would be a trait with a law (while no axis is
+// enabled a sample changes nothing) and two impls: no plainer than the two.
 fn slow_sampled(slow: Slow, previous: Previous, regs: &[u8; 64], x: i16, y: i16, z: i16) -> Slow
     ensures { result ≡ detectors.slow_sampled regs.now previous x y z slow }
 {
@@ -88,46 +90,6 @@ fn slow_sampled(slow: Slow, previous: Previous, regs: &[u8; 64], x: i16, y: i16,
     }
     let slopes = previous.slopes_to(x, y, z);
     slow.sample(slow_settings(regs), slopes)
-}
-
-// The previous sample after a write.
-fn previous_written(previous: Previous, forgets: bool) -> Previous
-    ensures { result ≡ detectors.previous_written forgets previous }
-{
-    if forgets {
-        return previous.forget();
-    }
-    previous
-}
-
-// Any-motion after a write.
-fn motion_written(motion: Motion, restarts: bool) -> Motion
-    ensures { result ≡ detectors.motion_written restarts motion }
-{
-    if restarts {
-        return motion.restart();
-    }
-    motion
-}
-
-// Low-g and high-g after a write.
-fn gravity_written(gravity: Gravity, restarts: bool) -> Gravity
-    ensures { result ≡ detectors.gravity_written restarts gravity }
-{
-    if restarts {
-        return gravity.restart();
-    }
-    gravity
-}
-
-// Slow motion and no-motion after a write.
-fn slow_written(slow: Slow, restarts: bool) -> Slow
-    ensures { result ≡ detectors.slow_written restarts slow }
-{
-    if restarts {
-        return slow.restart();
-    }
-    slow
 }
 
 impl Detectors {
@@ -147,14 +109,11 @@ impl Detectors {
     pub fn alarms(self) -> Alarms
         ensures { result ≡ detectors.alarms_of self }
     {
-        let motion = self.motion;
-        let gravity = self.gravity;
-        let slow = self.slow;
         Alarms {
-            low: gravity.low_alarm(),
-            high: gravity.high_alarm(),
-            motion: motion.alarm(),
-            slow: slow.alarm(),
+            low: self.gravity.low_alarm(),
+            high: self.gravity.high_alarm(),
+            motion: self.motion.alarm(),
+            slow: self.slow.alarm(),
         }
     }
 
@@ -163,14 +122,10 @@ impl Detectors {
     pub fn sample(mut self, regs: &[u8; 64], x: i16, y: i16, z: i16) -> Self
         ensures { result ≡ detectors.detectors_sampled regs.now x y z self }
     {
-        let previous = self.previous;
-        let motion = self.motion;
-        let gravity = self.gravity;
-        let slow = self.slow;
+        self.motion = motion_sampled(self.motion, self.previous, regs, x, y, z);
+        self.gravity = self.gravity.sample(regs, x, y, z);
+        self.slow = slow_sampled(self.slow, self.previous, regs, x, y, z);
         self.previous = Previous::remember(x, y, z);
-        self.motion = motion_sampled(motion, previous, regs, x, y, z);
-        self.gravity = gravity.sample(regs, x, y, z);
-        self.slow = slow_sampled(slow, previous, regs, x, y, z);
         self
     }
 
@@ -179,12 +134,9 @@ impl Detectors {
     pub fn clock(mut self, microseconds: u32) -> Self
         ensures { result ≡ detectors.detectors_clocked microseconds self }
     {
-        let motion = self.motion;
-        let gravity = self.gravity;
-        let slow = self.slow;
-        self.motion = motion.clock(microseconds);
-        self.gravity = gravity.clock(microseconds);
-        self.slow = slow.clock(microseconds);
+        self.motion = self.motion.clock(microseconds);
+        self.gravity = self.gravity.clock(microseconds);
+        self.slow = self.slow.clock(microseconds);
         self
     }
 
@@ -196,15 +148,18 @@ impl Detectors {
         if deeds.resets {
             return Detectors::quiet();
         }
-        let previous = self.previous;
-        let motion = self.motion;
-        let gravity = self.gravity;
-        let slow = self.slow;
-        let restarts = deeds.restarts;
-        self.previous = previous_written(previous, deeds.forgets);
-        self.motion = motion_written(motion, restarts.motion);
-        self.gravity = gravity_written(gravity, restarts.gravity);
-        self.slow = slow_written(slow, restarts.slow);
+        if deeds.forgets {
+            self.previous = self.previous.forget();
+        }
+        if deeds.restarts.motion {
+            self.motion = self.motion.restart();
+        }
+        if deeds.restarts.gravity {
+            self.gravity = self.gravity.restart();
+        }
+        if deeds.restarts.slow {
+            self.slow = self.slow.restart();
+        }
         self
     }
 }

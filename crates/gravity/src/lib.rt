@@ -13,7 +13,7 @@ use codes::{
     LOW_THRESHOLD_AT, RANGE_AT, Range, hold_of, is_reserved_range, is_unlatched, latch_of,
     range_of,
 };
-use laws::{bit, both};
+use laws::bit;
 use slopes::{Slope, no_axis, slope_between};
 use spell::{Shown, Spell, Stopwatch};
 
@@ -45,8 +45,7 @@ fn size_and_sign(value: i16) -> Slope
 fn times_size(factor: u8, value: i16) -> u32
     ensures { result ≡ factor * nat_abs value }
 {
-    let sized = size_and_sign(value);
-    factor as u32 * sized.size
+    factor as u32 * size_and_sign(value).size
 }
 
 // The time of a delay, in microseconds.
@@ -64,7 +63,7 @@ fn are_below(summed: bool, limit: u32, x: u32, y: u32, z: u32) -> bool
     if summed {
         return x as u64 + y as u64 + (z as u64) < limit as u64;
     }
-    both(x < limit, both(y < limit, z < limit))
+    x < limit && (y < limit && z < limit)
 }
 
 // What a sample shows of low-g, by whether it is below the threshold, and below that and the hysteresis.
@@ -101,8 +100,7 @@ fn judged_low(factor: u8, threshold: u8, modes: u8, x: i16, y: i16, z: i16) -> S
 fn low_shown(code: u8, threshold: u8, modes: u8, x: i16, y: i16, z: i16) -> Shown
     ensures { result ≡ low_shown code threshold modes x y z }
 {
-    let range = range_of(code);
-    match range {
+    match range_of(code) {
         Range::G2 => judged_low(1, threshold, modes, x, y, z),
         Range::G4 => judged_low(2, threshold, modes, x, y, z),
         Range::G8 => judged_low(4, threshold, modes, x, y, z),
@@ -115,20 +113,18 @@ fn low_shown(code: u8, threshold: u8, modes: u8, x: i16, y: i16, z: i16) -> Show
 fn above_on(place: u8, axes: u8, limit: u32, on: Slope) -> bool
     ensures { result ≡ above_on place axes limit on }
 {
-    both(bit(axes, place), limit < on.size)
+    bit(axes, place) && limit < on.size
 }
 
 // Whether some enabled axis is above a limit.
 fn some_above(axes: u8, limit: u32, x: Slope, y: Slope, z: Slope) -> bool
     ensures { result ≡ some_above axes limit x y z }
 {
-    let on_x = above_on(0, axes, limit, x);
-    let on_y = above_on(1, axes, limit, y);
-    let on_z = above_on(2, axes, limit, z);
-    on_x | (on_y | on_z)
+    above_on(0, axes, limit, x) || (above_on(1, axes, limit, y) || above_on(2, axes, limit, z))
 }
 
-// What a sample shows of high-g: the first enabled axis above the limit, or whether one is above what it clears to.
+// What a sample shows of high-g: the first enabled axis above the limit, or whether one is above what it clears to. `slopes` picks the first
+// axis of a point alike; shared, it would be an `Option` of a mark and a sign that both take apart again, which is no plainer.
 #[tactic(auto, unfolding(crate::specs::High::judged_high))]
 fn judged_high(axes: u8, limit: u32, to: u32, x: Slope, y: Slope, z: Slope) -> Shown
     ensures { result ≡ judged_high axes limit to x y z }
@@ -153,8 +149,7 @@ fn judged_high(axes: u8, limit: u32, to: u32, x: Slope, y: Slope, z: Slope) -> S
 fn clears_to(limit: u32, modes: u8) -> u32
     ensures { result ≡ clears_to limit modes }
 {
-    let band = 128 * (modes / 64) as u32;
-    if band < limit { limit - band } else { 0 }
+    limit.saturating_sub(128 * (modes / 64) as u32)
 }
 
 // What a sample shows of high-g, by the bytes of 0x17, 0x0F, 0x26 and 0x24: in an unknown range nothing.
@@ -204,7 +199,8 @@ fn low_sampled(low: Spell, regs: &[u8; 64], x: i16, y: i16, z: i16) -> Spell
     low
 }
 
-// High-g after an accepted sample.
+// High-g after an accepted sample. It differs from low-g in the enable, the bytes and the delay, which is most of it: one function for both
+// would take them all, and is no plainer.
 #[tactic(auto, unfolding(crate::specs::Gravity::high_sampled))]
 fn high_sampled(high: Spell, regs: &[u8; 64], x: i16, y: i16, z: i16) -> Spell
     ensures { result ≡ high_sampled regs.now x y z high }
@@ -247,36 +243,32 @@ impl Gravity {
     fn of_spells(low: Spell, high: Spell) -> Self
         ensures { result ≡ of_spells low high }
     {
-        let low_watch = low.watch;
-        let high_watch = high.watch;
-        let low_alarm = low.alarm;
-        let high_alarm = high.alarm;
         Gravity {
             watches: Watches {
-                low: low_watch,
-                high: high_watch,
+                low: low.watch,
+                high: high.watch,
             },
-            low: low_alarm,
-            high: high_alarm,
+            low: low.alarm,
+            high: high.alarm,
         }
     }
 
     fn low_spell(self) -> Spell
         ensures { result ≡ low_spell self }
     {
-        let watches = self.watches;
-        let watch = watches.low;
-        let alarm = self.low;
-        Spell { watch, alarm }
+        Spell {
+            watch: self.watches.low,
+            alarm: self.low,
+        }
     }
 
     fn high_spell(self) -> Spell
         ensures { result ≡ high_spell self }
     {
-        let watches = self.watches;
-        let watch = watches.high;
-        let alarm = self.high;
-        Spell { watch, alarm }
+        Spell {
+            watch: self.watches.high,
+            alarm: self.high,
+        }
     }
 
     // Low-g's alarm.
@@ -298,11 +290,9 @@ impl Gravity {
     pub fn restart(self) -> Self
         ensures { result ≡ both_restarted self }
     {
-        let low = self.low_spell();
-        let high = self.high_spell();
         Gravity::of_spells(
-            low.restart(Stopwatch::stopped()),
-            high.restart(Stopwatch::stopped()),
+            self.low_spell().restart(Stopwatch::stopped()),
+            self.high_spell().restart(Stopwatch::stopped()),
         )
     }
 
@@ -311,11 +301,9 @@ impl Gravity {
     pub fn clock(self, microseconds: u32) -> Self
         ensures { result ≡ both_clocked microseconds self }
     {
-        let low = self.low_spell();
-        let high = self.high_spell();
         Gravity::of_spells(
-            low.clock(Stopwatch::stopped(), microseconds),
-            high.clock(Stopwatch::stopped(), microseconds),
+            self.low_spell().clock(Stopwatch::stopped(), microseconds),
+            self.high_spell().clock(Stopwatch::stopped(), microseconds),
         )
     }
 
@@ -327,11 +315,9 @@ impl Gravity {
         if regs[ENABLES_AT] % 16 == 0 {
             return self;
         }
-        let low = self.low_spell();
-        let high = self.high_spell();
         Gravity::of_spells(
-            low_sampled(low, regs, x, y, z),
-            high_sampled(high, regs, x, y, z),
+            low_sampled(self.low_spell(), regs, x, y, z),
+            high_sampled(self.high_spell(), regs, x, y, z),
         )
     }
 }

@@ -8,7 +8,7 @@ ghost use Rattle.interrupts.specs.Maps.{all_statuses, status_byte, is_active, Ar
 ghost use Rattle.interrupts.specs.Pins as pins;
 
 use codes::{DRIVE_AT, ENABLES_AT, LEVEL_AT};
-use laws::{bit, both};
+use laws::bit;
 
 // What the statuses are made of beside the registers: the frame count and the depth, whether an accepted sample came since the
 // last cycle start or reset, and whether the alarms of low-g, of high-g, of any-motion, and of slow motion and no-motion are set.
@@ -59,7 +59,7 @@ fn reached(count: usize, depth: usize, level: u8) -> bool
     ensures { result ≡ statuses.reached count depth level }
 {
     let level = level as usize;
-    both(both(1 <= level, level <= depth), level <= count)
+    1 <= level && level <= depth && level <= count
 }
 
 pub fn statuses_of(regs: &[u8; 64], sources: Sources) -> Statuses
@@ -71,12 +71,9 @@ pub fn statuses_of(regs: &[u8; 64], sources: Sources) -> Statuses
         high: sources.hit,
         motion: sources.moved,
         slow: sources.slow,
-        ready: both(bit(enables, 4), sources.came),
-        watermark: both(
-            bit(enables, 6),
-            reached(sources.count, sources.depth, regs[LEVEL_AT]),
-        ),
-        full: both(bit(enables, 5), sources.count == sources.depth),
+        ready: bit(enables, 4) & sources.came,
+        watermark: bit(enables, 6) & reached(sources.count, sources.depth, regs[LEVEL_AT]),
+        full: bit(enables, 5) & (sources.count == sources.depth),
     }
 }
 
@@ -102,17 +99,17 @@ pub fn data_byte(statuses: Statuses) -> u8
     weigh(128, statuses.ready) + (weigh(64, statuses.watermark) + weigh(32, statuses.full))
 }
 
-// Whether some status is 1 and mapped.
+// Whether some status is 1 and mapped. All seven are asked, without a branch.
 fn any_mapped(statuses: Statuses, mapped: Statuses) -> bool
     ensures { result ≡ any_mapped statuses mapped all_statuses }
 {
-    let low = both(statuses.low, mapped.low);
-    let high = both(statuses.high, mapped.high);
-    let motion = both(statuses.motion, mapped.motion);
-    let slow = both(statuses.slow, mapped.slow);
-    let ready = both(statuses.ready, mapped.ready);
-    let watermark = both(statuses.watermark, mapped.watermark);
-    let full = both(statuses.full, mapped.full);
+    let low = statuses.low & mapped.low;
+    let high = statuses.high & mapped.high;
+    let motion = statuses.motion & mapped.motion;
+    let slow = statuses.slow & mapped.slow;
+    let ready = statuses.ready & mapped.ready;
+    let watermark = statuses.watermark & mapped.watermark;
+    let full = statuses.full & mapped.full;
     low | (high | (motion | (slow | (ready | (watermark | full)))))
 }
 
@@ -168,7 +165,7 @@ fn level_of(active: bool, high: bool, opendrive: bool) -> Level
     if high { Level::Low } else { Level::High }
 }
 
-// The bits of 0x20 that give a pin's active level and its drive.
+// The bits of 0x20 that give a pin's active level and its drive: two rows of the sheet, which a pair for each pin would not make plainer.
 fn level_bit(pin: Pin) -> u8
     ensures { result ≡ pins.level_bit pin }
 {

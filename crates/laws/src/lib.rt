@@ -13,42 +13,34 @@ ghost use Rattle.laws.specs.Choice as choice;
 pub fn bit(byte: u8, place: u8) -> bool
     ensures { result ≡ bits.bit place byte }
 {
-    if place < 8 {
-        (byte >> place) % 2 == 1
-    } else {
-        false
-    }
+    place < 8 && (byte >> place) % 2 == 1
 }
 
 pub fn both(a: bool, b: bool) -> bool
     ensures { result ≡ choice.both a b }
 {
-    if a { b } else { false }
+    a && b
 }
 
 // The 16 bits of a signed number.
 pub fn word_of(x: i16) -> u16
     ensures { result ≡ of_z w16 x }
 {
-    ((x as i32) & 65535) as u16
+    x.cast_unsigned()
 }
 
 pub fn least(a: usize, b: usize) -> usize
     ensures { result ≡ min a b }
 {
-    if a < b { a } else { b }
+    a.min(b)
 }
 
 // The bytes of s from one place up to another, as far as it has them, move to its front: how many they are.
 pub fn move_forward(s: &mut [u8], from: usize, to: usize) -> usize
     ensures { (result ≡ length (between from to s.old)) × (s.new ≡ moved_forward from to s.old) }
 {
-    let end = least(to, s.len());
-    let n = end - least(from, end);
-    let mut i = 0;
-    while i < n {
-        s[i] = s[from + i];
-        i += 1;
-    }
-    n
+    let end = to.min(s.len());
+    let start = from.min(end);
+    s.copy_within(start..end, 0);
+    end - start
 }

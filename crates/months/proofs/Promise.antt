@@ -11,11 +11,11 @@ use lib.ListN.{length, drop}
 use Rattle.std.specs.Prelude.{Result, Ok, Err}
 use Rattle.laws.specs.Choice.{both}
 use Rattle.laws.proofs.Finite.{left, right}
+use Rattle.std.specs.Prelude.{Result, Ok, Err}
 use Rattle.benchlog.specs.Reader.{read_version}
 use Rattle.benchlog.specs.Walk.{Walked, walk, behind_version, walk_log}
 use Rattle.benchlog.specs.Whole.{look_record, read_log}
-use Rattle.benchlog.specs.declared.Begins.{Begins}
-use Rattle.benchlog.specs.declared.Begins.TheVariants as begins
+use Rattle.benchlog.specs.declared.Refusal.{Refusal}
 use Rattle.benchlog.specs.declared.Entry.{Entry}
 use Rattle.benchlog.proofs.Logs.{few-records}
 use Rattle.events.specs.Event.{Event, clock}
@@ -79,18 +79,18 @@ zeros = ap (λ (a : Account). code.sheet_of (at (after []) a no_sums)) account-f
 
 log_is : (log : List ℕ) → length log < 2 ^ 64 → log_sheet log ≡ code.sheet_of (state_of (history_of log))
 unfolding said_from walk_log history_of start said_of
-log_is log room = go (read_version log).begins (few-records log)
+log_is log room = go (read_version log) (few-records log)
   where
-    walked : Walked Entry
-    walked = walk look_record (drop (read_version log).next log)
+    walked : ℕ → Walked Entry
+    walked next = walk look_record (drop next log)
 
-    go : (b : Begins) → length (behind_version b walked).items ≤ length log - 1 →
+    go : (b : Result ℕ Refusal) → length (behind_version b walked).items ≤ length log - 1 →
         let l = behind_version b walked in
         code.sheet_of (said_of_log sheeter (λ text later. later) (λ s text refusal. s) start l) ≡ code.sheet_of (state_of (records_behind [] l.items))
-    go begins.Version few =
-        ap code.sheet_of (ap (λ (s : Sheeting). said_of sheeter (λ text later. later) (λ s text refusal. s) s walked.items walked.stop) begins-with ∙ led walked.items walked.stop [] (omega arith))
-    go begins.WrongVersion few = zeros
-    go begins.Empty few = zeros
+    go (Ok next) few =
+        let w = walked next in
+        ap code.sheet_of (ap (λ (s : Sheeting). said_of sheeter (λ text later. later) (λ s text refusal. s) s w.items w.stop) begins-with ∙ led w.items w.stop [] (omega arith))
+    go (Err refusal) few = zeros
 
 -- ---- what the code's sheet is, by whether all fitted
 module _ (rs : List Recorded) where

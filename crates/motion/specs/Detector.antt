@@ -1,5 +1,6 @@
 -- 01, "Interrupts and pins": the any-motion detector, which is runs of points and an alarm.
 use Rattle.std.specs.Prelude.{ℕ, ◌+◌, ◌%◌, Bool, leb}
+use Rattle.std.specs.Prelude.{Option}
 use Rattle.laws.specs.Choice.{pick, both}
 use Rattle.alarm.specs.Alarm.{off, raised, cleared, lapse_of}
 use Rattle.slopes.specs.Point.{point_of}
@@ -44,7 +45,7 @@ after_point s Calm m = after_calm (points_needed s) s.unlatched m
 after_point s (Over axis falling) m = after_over (points_needed s) axis falling s.hold m
 
 -- an accepted sample comes
-unfoldable pub after_sample : Settings → Slopes → Motion → Motion
+unfoldable pub after_sample : Settings → Option Slopes → Motion → Motion
 after_sample s slopes m = after_point s (point_of s.axes s.threshold slopes) m
 
 -- "An accepted write to 0x0F, 0x16, 0x21, 0x27 or 0x28 clears status, marks and runs"

@@ -64,20 +64,18 @@ impl Motion {
     pub fn restart(mut self) -> Self
         ensures { result ≡ restarted self }
     {
-        let alarm = self.alarm;
         self.runs = Runs::none();
-        self.alarm = alarm.clear();
+        self.alarm = self.alarm.clear();
         self
     }
 
     // An accepted sample comes, with its slopes.
     #[tactic(auto, unfolding(crate::specs::Detector::after_sample))]
-    pub fn sample(self, settings: Settings, slopes: Slopes) -> Self
+    pub fn sample(self, settings: Settings, slopes: Option<Slopes>) -> Self
         ensures { result ≡ after_sample settings slopes self }
     {
         let n = settings.points_needed();
-        let point = judge(settings.axes, settings.threshold, slopes);
-        match point {
+        match judge(settings.axes, settings.threshold, slopes) {
             Point::None => self,
             Point::Calm => self.after_calm(n, settings.unlatched),
             Point::Over(axis, falling) => self.after_over(n, axis, falling, settings.hold),
@@ -89,9 +87,7 @@ impl Motion {
     pub fn clock(mut self, microseconds: u32) -> Self
         ensures { result ≡ clocked microseconds self }
     {
-        let alarm = self.alarm;
-        let lapse = alarm.clock(microseconds);
-        match lapse {
+        match self.alarm.clock(microseconds) {
             Lapse::Stands(waiting) => {
                 self.alarm = waiting;
                 self
@@ -104,12 +100,9 @@ impl Motion {
     fn after_over(mut self, n: u8, axis: u8, falling: bool, hold: u32) -> Self
         ensures { result ≡ after_over n axis falling hold self }
     {
-        let runs = self.runs;
-        let alarm = self.alarm;
-        let longer = runs.after_over(n);
-        self.runs = longer;
-        if longer.reached_over(n) {
-            self.alarm = alarm.raise(axis, falling, hold);
+        self.runs = self.runs.after_over(n);
+        if self.runs.reached_over(n) {
+            self.alarm = self.alarm.raise(axis, falling, hold);
         }
         self
     }
@@ -118,14 +111,9 @@ impl Motion {
     fn after_calm(mut self, n: u8, unlatched: bool) -> Self
         ensures { result ≡ after_calm n unlatched self }
     {
-        let runs = self.runs;
-        let alarm = self.alarm;
-        let longer = runs.after_calm(n);
-        self.runs = longer;
-        if unlatched {
-            if longer.reached_calm(n) {
-                self.alarm = alarm.clear();
-            }
+        self.runs = self.runs.after_calm(n);
+        if unlatched && self.runs.reached_calm(n) {
+            self.alarm = self.alarm.clear();
         }
         self
     }

@@ -22,7 +22,7 @@ use Rattle.codes.specs.Range.{range_of}
 use Rattle.channels.specs.Codes.{in_range}
 use Rattle.table.specs.Rows.{row_at, the_table}
 use Rattle.std.specs.Prelude.{Err}
-use Rattle.registers.specs.Answers.{Answer, done, refusal_number, number, accepted}
+use Rattle.registers.specs.Answers.{Answer, done, number, accepted}
 use Rattle.registers.specs.Deeds.{judgement}
 use Rattle.registers.specs.Refused.{reserved_code, not_modelled, lack_at, write_rows, read_rows, answer_at, write_answer, read_answer}
 use Rattle.registers.specs.declared.Refusal.TheVariants.{NoAddress, ReservedCode}
@@ -100,7 +100,7 @@ module _ (d : Device) (a byte : ℕ) where
 
   -- whether what is lacking has the number n
   abbrev numbered : ℕ → Bool
-  numbered n = eqb n (refusal_number (lack_at a))
+  numbered n = eqb n (number (Err (lack_at a)))
 
   is-detector : ¬ AboveLast a → Means (both (numbered 11) lacking) (DetectorWrite a byte)
   is-detector h = same_test (detector-is d.regs a byte (within h))
@@ -120,7 +120,7 @@ module _ (d : Device) (a byte : ℕ) where
   third n w h = and (isnt (is-reserved h)) (λ _. likewise (last_row (numbered n) lacking) (w h))
 
   zero-free : numbered 0 ≡ false
-  zero-free = lack-any (λ x. eqb 0 (refusal_number x) ≡ false) refl refl refl a
+  zero-free = lack-any (λ x. eqb 0 (number (Err x)) ≡ false) refl refl refl a
 
   pub write-0 : (number (write_of d a byte).answer ≡ 0) ↔ (¬ AboveLast a × (¬ ReservedWrite (reg d) a byte × ¬ LackingWrite a byte))
   write-0 = when (write-exactly d a byte 0) (and (isnt (less 0x3F a)) (λ h. and (isnt (is-reserved h)) (λ _. rw zero-free (last (isnt (is-lacking h))))))
@@ -213,7 +213,7 @@ event-answers : (d : Device) (e : Event) → is_in (answers_to e) (gives d e).nu
 unfolding write_of judgement answer_at read_of read_answer sample_of sample_answer cycle_of clock_of
 event-answers d power_up = refl
 event-answers d (write a byte) =
-    let lack : is_in (answers_to (write a byte)) (refusal_number (lack_at a)) ≡ true = lack-any (λ x. is_in (answers_to (write a byte)) (refusal_number x) ≡ true) refl refl refl a in
+    let lack : is_in (answers_to (write a byte)) (number (Err (lack_at a))) ≡ true = lack-any (λ x. is_in (answers_to (write a byte)) (number (Err x)) ≡ true) refl refl refl a in
     first-in number (answers_to (write a byte)) done refl (write_rows d.regs (row_at a) a byte) (rw lack)
 event-answers d (read a n) = first-in number (0 ∷ 1 ∷ 5 ∷ 6 ∷ []) done refl (read_rows a n) refl
 event-answers d (sample x y z t) = first-in number (0 ∷ 4 ∷ []) done refl (sample_rows x y z) refl

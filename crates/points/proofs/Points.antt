@@ -85,7 +85,7 @@ module _ (enabled threshold : ℕ) where
   point-is new p [] h = rw h
   point-is new p (old ∷ olds) h = rw (h, none-enabled enabled, over-is old new) (go (any_enabled enabled))
     where
-      go : (t : Bool) → pick (either (not true) (not t)) None (as_point (above_among enabled threshold (axes_between old new)))
+      go : (t : Bool) → pick (not t) None (as_point (above_among enabled threshold (axes_between old new)))
           ≡ as_points (pick t (above_among enabled threshold (axes_between old new) ∷ []) [])
       go true = refl
       go false = refl

@@ -10,11 +10,13 @@ use borrow.Author.Tests.{eqb-true, eqb-false}
 use lib.Dec.{eqb}
 use lib.ListN.{drop}
 use Rattle.laws.specs.Choice.{pick}
+use Rattle.std.specs.Prelude.{Result, Ok, Err}
 use Rattle.benchlog.specs.Reader.{read_version}
 use Rattle.benchlog.specs.Walk.{walk, behind_version, walk_log}
 use Rattle.benchlog.specs.Whole.{look_record, read_log}
-use Rattle.benchlog.specs.declared.Begins.{Begins}
-use Rattle.benchlog.specs.declared.Begins.TheVariants as begins
+use Rattle.benchlog.specs.Answers.{refusal_number}
+use Rattle.benchlog.specs.declared.Refusal.{Refusal}
+use Rattle.benchlog.specs.declared.Refusal.TheVariants.{WrongVersion, WrongRecord, Cut}
 use Rattle.benchlog.proofs.Walks.{walked, records-within, none-cases}
 use Rattle.benchlog.specs.declared.Entry.{Entry}
 use Rattle.follow.specs.Source.{records}
@@ -84,15 +86,19 @@ Listed n = (n ≡ 0) ⊎ ((n ≡ 7) ⊎ ((n ≡ 8) ⊎ (n ≡ 9)))
 
 log-listed : (log : List ℕ) → Listed (read_log log).stop
 unfolding walk_log
-log-listed log = go (read_version log).begins
+log-listed log = go (read_version log)
   where
-    go : (b : Begins) → Listed (behind_version b (walk look_record (drop (read_version log).next log))).stop
-    go begins.Version =
+    refused : (refusal : Refusal) → Listed (refusal_number refusal)
+    refused WrongVersion = inr (inl refl)
+    refused WrongRecord = inr (inr (inl refl))
+    refused Cut = inr (inr (inr refl))
+
+    go : (b : Result ℕ Refusal) → Listed (behind_version b (λ next. walk look_record (drop next log))).stop
+    go (Ok next) =
         walked look_record records-within (λ bytes w. Listed w.stop)
-        (λ bytes number q. none-cases Listed bytes number q (λ _. inl refl) (λ _. inr (inr (inl refl))) (λ _. inr (inr (inr refl))))
+        (λ bytes number q. none-cases Listed bytes number q (λ _. inl refl) (λ refusal _. refused refusal))
         (λ bytes e n q behind. behind) _
-    go begins.WrongVersion = inr (inl refl)
-    go begins.Empty = inr (inr (inr refl))
+    go (Err refusal) = refused refusal
 
 -- ---- of a pump that begins before the version byte
 module _ (printed : List ℕ → List ℕ) (who : Teller records) (law : Lawful who) (first : who.State) (off : who.begun first ≡ false) where

@@ -12,7 +12,12 @@ use std::process::ExitCode;
 use stream::Ended;
 
 // How the replay that was asked for came to its end.
-fn tell_replayed<E: Write>(rt: &HostRuntime, errors: &mut E, wanted: Option<bool>, ended: Ended<Replay>)
+fn tell_replayed<E: Write>(
+    rt: &HostRuntime,
+    errors: &mut E,
+    wanted: Option<bool>,
+    ended: Ended<Replay>,
+)
     requires { ReplayedAs wanted ended }
 {
     ending::tell_end(rt, errors, b"replay", ended);

@@ -7,11 +7,9 @@ use mathlib.Core.Path.{◌≡◌, refl, ap, ◌∙◌}
 use native.Mathlib.Omega.{arith}
 use lib.ListN.{length, drop}
 use Rattle.benchlog.specs.Format.{length_of_kind}
-use Rattle.benchlog.specs.Reader.{entry_of, found_in, decided, read_head, read_at}
+use Rattle.benchlog.specs.Reader.{entry_of, whole, found_in, decided, read_head, read_at}
 use Rattle.benchlog.specs.declared.Entry.{Entry}
 use Rattle.benchlog.specs.declared.Entry.TheVariants as entry
-use Rattle.benchlog.specs.declared.Found.TheVariants as found
-use Rattle.benchlog.specs.declared.Read.{Read}
 use Rattle.benchlog.proofs.Local.{head-local}
 use Rattle.entries.specs.Entries.{event_of}
 use Rattle.events.specs.Event as event
@@ -19,11 +17,8 @@ use Rattle.events.specs.Event.{Event}
 use Rattle.recorded.specs.Recorded.{record_of, events_in}
 use Rattle.replayed.specs.Events.{signed_of, four_of, IsRecordOf, Fields}
 
-abbrev found_of : Entry → ℕ → Read
-found_of r next = record { found = found.Record r; next = next }
-
 -- bytes that decide, by themselves, are read the same in a log
-is-record : (e : Event) (r : Entry) (bytes : List ℕ) → decided bytes ≡ true → ((place : ℕ) → read_head place bytes ≡ found_of r (place + length bytes)) → events_in (record_of r) ≡ e ∷ []
+is-record : (e : Event) (r : Entry) (bytes : List ℕ) → decided bytes ≡ true → ((place : ℕ) → read_head place bytes ≡ whole r (place + length bytes)) → events_in (record_of r) ≡ e ∷ []
     → IsRecordOf e bytes
 is-record e r bytes known reads is = record {
   entry = r;
@@ -54,7 +49,7 @@ clock-fields : (a b c d : ℕ) → IsRecordOf (event.clock (four_of a b c d)) (0
 unfolding decided read_head found_in entry_of length_of_kind event_of
 clock-fields a b c d =
     let four : (a * 256 + b) * 65536 + (c * 256 + d) ≡ four_of a b c d = omega arith in
-    is-record _ (entry.Clock (record { microseconds = four_of a b c d })) _ refl (λ place. ap (λ (us : ℕ). found_of (entry.Clock (record { microseconds = us })) (place + 7)) four) refl
+    is-record _ (entry.Clock (record { microseconds = four_of a b c d })) _ refl (λ place. ap (λ (us : ℕ). whole (entry.Clock (record { microseconds = us })) (place + 7)) four) refl
 
 pub fields : Fields
 fields = record { write = write-fields; read = read-fields; sample = sample-fields; cycle = cycle-fields; clock = clock-fields }

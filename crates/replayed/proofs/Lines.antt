@@ -8,11 +8,12 @@ use native.Mathlib.Omega.{arith}
 use lib.Dec.{eqb}
 use lib.ListN.{length, get_or, drop, length-append}
 use Rattle.laws.specs.Choice.{pick}
+use Rattle.std.specs.Prelude.{Result, Ok, Err}
 use Rattle.benchlog.specs.Reader.{read_version}
 use Rattle.benchlog.specs.Walk.{Walked, walk, behind_version, walk_log}
 use Rattle.benchlog.specs.Whole.{look_record, read_log}
-use Rattle.benchlog.specs.declared.Begins.{Begins}
-use Rattle.benchlog.specs.declared.Begins.TheVariants as begins
+use Rattle.benchlog.specs.Answers.{refusal_number}
+use Rattle.benchlog.specs.declared.Refusal.{Refusal}
 use Rattle.benchlog.specs.declared.Entry.{Entry}
 use Rattle.benchlog.proofs.Logs.{few-records}
 use Rattle.device.specs.Show.{pins_of}
@@ -98,20 +99,20 @@ module _ (pins : Bool) where
 -- ---- the whole log
 pub replay-prints : (pins : Bool) (log : List ℕ) → length log < 2 ^ 64 → printed pins log ≡ joined (lines_in pins log)
 unfolding said_from walk_log lines_in history_of start record_lines after said_of
-replay-prints pins log long = go (read_version log).begins (few-records log)
+replay-prints pins log long = go (read_version log) (few-records log)
   where
-    walked : Walked Entry
-    walked = walk look_record (drop (read_version log).next log)
+    walked : ℕ → Walked Entry
+    walked next = walk look_record (drop next log)
 
-    go : (b : Begins) → length (behind_version b walked).items ≤ length log - 1 →
+    go : (b : Result ℕ Refusal) → length (behind_version b walked).items ≤ length log - 1 →
         let l = behind_version b walked in
         let rs = records_behind [] l.items in
         text_of_log replayer (start pins) l ≡ joined (record_lines pins rs ++ (stop_lines pins l.begun l.stop rs ++ (last_line (events_of rs) ∷ [])))
-    go begins.Version few =
-        lines-read pins walked.items walked.stop [] (omega arith)
-        ∙ whole-text pins true walked.stop (records_behind [] walked.items)
-    go begins.WrongVersion few = stop-first pins 7 ∙ whole-text pins false 7 []
-    go begins.Empty few = stop-first pins 9 ∙ whole-text pins false 9 []
+    go (Ok next) few =
+        let w = walked next in
+        lines-read pins w.items w.stop [] (omega arith)
+        ∙ whole-text pins true w.stop (records_behind [] w.items)
+    go (Err refusal) few = let n = refusal_number refusal in stop-first pins n ∙ whole-text pins false n []
 
 -- ---- line by line
 -- there is a line for each record

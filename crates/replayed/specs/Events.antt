@@ -2,9 +2,8 @@
 use Rattle.std.specs.Prelude.{ℕ, ◌+◌, ◌*◌, List, [], ◌∷◌, ◌++◌, ◌≡◌, ℤ, length, drop}
 use Rattle.std.specs.Int.{w16}
 use Rattle.std.proofs.Common.{to_z}
-use Rattle.benchlog.specs.Reader.{read_at}
+use Rattle.benchlog.specs.Reader.{read_at, whole}
 use Rattle.benchlog.specs.declared.Entry.{Entry}
-use Rattle.benchlog.specs.declared.Found.TheVariants as found
 use Rattle.events.specs.Event as event
 use Rattle.events.specs.Event.{Event}
 use Rattle.recorded.specs.Recorded.{record_of, events_in}
@@ -14,7 +13,7 @@ use Rattle.recorded.specs.Recorded.{record_of, events_in}
 pub record IsRecordOf (e : Event) (bytes : List ℕ) : Type 0 where
   pub entry : Entry
   pub reads : (log : List ℕ) (place : ℕ) (rest : List ℕ) → drop place log ≡ bytes ++ rest
-      → read_at log place ≡ record { found = found.Record entry; next = place + length bytes }
+      → read_at log place ≡ whole entry (place + length bytes)
   pub event-is : events_in (record_of entry) ≡ e ∷ []
 
 -- two bytes "16-bit big-endian signed", and Q-4's four, "big-endian"

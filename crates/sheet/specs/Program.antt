@@ -1,7 +1,7 @@
 -- The sheet over all logs that are named, or over all sheets. No contract can say what stands in a file: of each name this says what was made of
 -- what was read.
-use Rattle.std.specs.Prelude.{ℕ, suc, Bool, true, false, List, ◌≡◌}
-use Rattle.sheets.specs.Sheets.{empty_month}
+use Rattle.std.specs.Prelude.{ℕ, suc, Bool, true, false, List, Result, Ok, Err, ◌≡◌}
+use Rattle.sheets.specs.Sheets.{empty_month, kept}
 use Rattle.sheets.specs.declared.Month.{Month}
 use Rattle.follow.specs.Whole.{printed_from}
 use Rattle.sheeting.specs.Sheeting.{sheeter, start}
@@ -11,8 +11,8 @@ use Rattle.arguments.specs.declared.SheetWanted.TheVariants.{Print, Raw, Join, J
 use Rattle.stream.specs.Pump.{PumpedAs}
 use Rattle.stream.specs.declared.Ended.{Ended}
 use Rattle.gathering.specs.Gathering.{log_added, sheet_added, worse_of, month_status}
-use Rattle.gathering.specs.declared.Added.{Added}
-use Rattle.gathering.specs.declared.Added.TheVariants.{In, TooLarge, NotRead, NoSheet}
+use Rattle.gathering.specs.declared.LeftOut.{LeftOut}
+use Rattle.gathering.specs.declared.LeftOut.TheVariants.{TooLarge, NotRead, NoSheet}
 use Rattle.sheet.specs.declared.Gathering.{Gathering}
 use Rattle.sheet.specs.declared.handed.Printed.{Printed}
 
@@ -30,16 +30,16 @@ raws Join = false
 raws JoinRaw = true
 
 -- ---- a name: what is there cannot be read, or a pump came to its end with it
-pub data LogTaken (m : Month) (added : Added) : Type 0 where
-  unread : added ≡ NotRead → LogTaken m added
+pub data LogTaken (m : Month) (added : Result Month LeftOut) : Type 0 where
+  unread : added ≡ Err NotRead → LogTaken m added
   pumped : (ended : Ended Sheeting) → PumpedAs ended.how (printed_from sheeter start) sheeter start ended → added ≡ log_added m ended → LogTaken m added
 
 -- or it gave these bytes
-pub data SheetTaken (m : Month) (added : Added) : Type 0 where
-  unread : added ≡ NotRead → SheetTaken m added
+pub data SheetTaken (m : Month) (added : Result Month LeftOut) : Type 0 where
+  unread : added ≡ Err NotRead → SheetTaken m added
   given : (bytes : List ℕ) → added ≡ sheet_added m bytes → SheetTaken m added
 
-abbrev pub Taken : Bool → Month → Added → Type 0
+abbrev pub Taken : Bool → Month → Result Month LeftOut → Type 0
 Taken true m added = SheetTaken m added
 Taken false m added = LogTaken m added
 
@@ -47,24 +47,21 @@ abbrev pub no_sheet : ℕ
 no_sheet = 2
 
 -- 1 where it cannot be read, 2 where it is no sheet, 3 where a total would not fit
-abbrev pub added_status : Added → ℕ
-added_status (In m) = 0
-added_status TooLarge = 3
-added_status NotRead = 1
-added_status NoSheet = no_sheet
+abbrev pub added_status : Result Month LeftOut → ℕ
+added_status (Ok m) = 0
+added_status (Err TooLarge) = 3
+added_status (Err NotRead) = 1
+added_status (Err NoSheet) = no_sheet
 
 -- "the sheet unchanged" where it is left out
-abbrev pub month_after : Month → Added → Month
-month_after m (In more) = more
-month_after m TooLarge = m
-month_after m NotRead = m
-month_after m NoSheet = m
+abbrev pub month_after : Month → Result Month LeftOut → Month
+month_after m added = kept m added
 
-abbrev pub behind : Gathering → Added → Gathering
+abbrev pub behind : Gathering → Result Month LeftOut → Gathering
 behind g added = record { month = month_after g.month added; status = worse_of g.status (added_status added) }
 
 pub record NameTaken (join : Bool) (g g' : Gathering) : Type 0 where
-  pub added : Added
+  pub added : Result Month LeftOut
   pub taken : Taken join g.month added
   pub is : g' ≡ behind g added
 

@@ -5,11 +5,11 @@
 mod handed;
 
 ghost use Rattle.std.specs.Prelude.{None, true, false, ◌≡◌, ◌-◌, ◌≤◌, length};
-ghost use Rattle.sheet.specs.Program.{joins, raws, LogTaken, SheetTaken, Taken, added_status, month_after, behind, NameTaken, Gathered, no_sheet, status_behind, PrintedOf, PrintedAs};
+ghost use Rattle.sheet.specs.Program.{joins, raws, LogTaken, SheetTaken, Taken, added_status, behind, NameTaken, Gathered, no_sheet, status_behind, PrintedOf, PrintedAs};
 
 use arguments::{SheetWanted, sheet_of};
 use caller::Output;
-use gathering::{Added, status_of, with_log, with_sheet, worse};
+use gathering::{LeftOut, status_of, with_log, with_sheet, worse};
 use handed::{Printed, write_bytes, write_nothing, write_text};
 use sheetfile::SIZE;
 use sheets::Month;
@@ -55,7 +55,7 @@ fn buffer() -> [u8; 4096]
 }
 
 // A month with the log that a reader gives.
-fn take_log<R: Read>(input: &mut R, month: Month) -> Added
+fn take_log<R: Read>(input: &mut R, month: Month) -> Result<Month, LeftOut>
     ensures { LogTaken month result }
 {
     let ended = stream::pump_sheet(input);
@@ -67,6 +67,7 @@ fn read_full<R: Read>(input: &mut R, bytes: &mut [u8]) -> usize
     ensures { result ≤ length bytes.new }
 {
     let mut done = 0;
+    // no `for`: a step is as long as what a read gives
     while done < bytes.len() {
         let n = input.read(&mut bytes[done..]).unwrap_or(0);
         if n == 0 {
@@ -78,7 +79,7 @@ fn read_full<R: Read>(input: &mut R, bytes: &mut [u8]) -> usize
 }
 
 // A month with the sheet that a reader gives.
-fn take_sheet<R: Read>(input: &mut R, month: Month) -> Added
+fn take_sheet<R: Read>(input: &mut R, month: Month) -> Result<Month, LeftOut>
     ensures { SheetTaken month result }
 {
     let mut bytes = buffer();
@@ -88,13 +89,13 @@ fn take_sheet<R: Read>(input: &mut R, month: Month) -> Added
     if n < bytes.len() {
         match input.read(&mut more) {
             Ok(0) => {}
-            _ => return Added::NotRead,
+            _ => return Err(LeftOut::NotRead),
         }
     }
     with_sheet(month, &bytes[..n])
 }
 
-fn take<R: Read>(input: &mut R, join: bool, month: Month) -> Added
+fn take<R: Read>(input: &mut R, join: bool, month: Month) -> Result<Month, LeftOut>
     ensures { Taken join month result }
 {
     if join {
@@ -105,17 +106,17 @@ fn take<R: Read>(input: &mut R, join: bool, month: Month) -> Added
 }
 
 // What stands in a file.
-fn take_file(rt: &HostRuntime, path: &str, join: bool, month: Month) -> Added
+fn take_file(rt: &HostRuntime, path: &str, join: bool, month: Month) -> Result<Month, LeftOut>
     ensures { Taken join month result }
 {
     match File::open(rt, path) {
         Ok(mut file) => take(&mut file, join, month),
-        Err(_) => Added::NotRead,
+        Err(_) => Err(LeftOut::NotRead),
     }
 }
 
 // What has a name: - is standard input, which stays open. A name that is no UTF-8 opens nothing.
-fn take_named(rt: &HostRuntime, name: &[u8], join: bool, month: Month) -> Added
+fn take_named(rt: &HostRuntime, name: &[u8], join: bool, month: Month) -> Result<Month, LeftOut>
     ensures { Taken join month result }
 {
     if check::same(name, b"-") {
@@ -123,7 +124,7 @@ fn take_named(rt: &HostRuntime, name: &[u8], join: bool, month: Month) -> Added
     }
     match str::from_utf8(name) {
         Ok(path) => take_file(rt, path, join, month),
-        Err(_) => Added::NotRead,
+        Err(_) => Err(LeftOut::NotRead),
     }
 }
 
@@ -139,47 +140,32 @@ fn tell_of(rt: &HostRuntime, name: &[u8], what: &[u8]) {
     say(rt, b"\n");
 }
 
-// Why it is left out, where it is.
-fn tell_added(rt: &HostRuntime, name: &[u8], added: Added) {
-    match added {
-        Added::In(_) => {}
-        Added::TooLarge => tell_of(
-            rt,
-            name,
-            b" is refused 15: a total would not fit; it is left out",
-        ),
-        Added::NotRead => tell_of(rt, name, b" cannot be read"),
-        Added::NoSheet => tell_of(rt, name, b" is no sheet"),
-    }
+fn tell_left_out(rt: &HostRuntime, name: &[u8], why: LeftOut) {
+    let why: &[u8] = match why {
+        LeftOut::TooLarge => b" is refused 15: a total would not fit; it is left out",
+        LeftOut::NotRead => b" cannot be read",
+        LeftOut::NoSheet => b" is no sheet",
+    };
+    tell_of(rt, name, why);
 }
 
-fn added_status(added: Added) -> u8
+fn added_status(added: Result<Month, LeftOut>) -> u8
     ensures { result ≡ added_status added }
 {
     match added {
-        Added::In(_) => 0,
-        Added::TooLarge => 3,
-        Added::NotRead => 1,
-        Added::NoSheet => NO_SHEET,
+        Ok(_) => 0,
+        Err(LeftOut::TooLarge) => 3,
+        Err(LeftOut::NotRead) => 1,
+        Err(LeftOut::NoSheet) => NO_SHEET,
     }
 }
 
-fn month_after(month: Month, added: Added) -> Month
-    ensures { result ≡ month_after month added }
-{
-    match added {
-        Added::In(more) => more,
-        Added::TooLarge => month,
-        Added::NotRead => month,
-        Added::NoSheet => month,
-    }
-}
-
-fn after(before: Gathering, added: Added) -> Gathering
+// What is left out leaves the month as it was.
+fn after(before: Gathering, added: Result<Month, LeftOut>) -> Gathering
     ensures { result ≡ behind before added }
 {
     Gathering {
-        month: month_after(before.month, added),
+        month: added.unwrap_or(before.month),
         status: worse(before.status, added_status(added)),
     }
 }
@@ -191,7 +177,9 @@ fn take_word(rt: &HostRuntime, i: usize, join: bool, before: Gathering) -> Gathe
     let mut name = buffer();
     let n = caller::word_at(rt, i, &mut name);
     let added = take_named(rt, &name[..n], join, before.month);
-    tell_added(rt, &name[..n], added);
+    if let Err(why) = added {
+        tell_left_out(rt, &name[..n], why);
+    }
     caller::put_byte(rt, DONE, b'.');
     after(before, added)
 }
@@ -204,10 +192,8 @@ fn gather(rt: &HostRuntime, count: usize, join: bool) -> Gathering
         month: Month::empty(),
         status: 0,
     };
-    let mut i: usize = 2;
-    while i < count {
+    for i in 2..count {
         gathering = take_word(rt, i, join, gathering);
-        i += 1;
     }
     gathering
 }

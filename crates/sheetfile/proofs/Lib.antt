@@ -1,5 +1,5 @@
-pub mod Tests
 pub mod Sums
+pub mod Eight
 pub mod Lengths
 pub mod Pieces
 pub mod Written

@@ -1,5 +1,5 @@
 -- Q-8: "what is no sheet is refused". Each part is read at the head of the bytes that are left.
-use Rattle.std.specs.Prelude.{ℕ, ◌+◌, ◌*◌, Bool, List, Option, None, Result, Ok, Err, eqb, ℤ, length, get_or, drop}
+use Rattle.std.specs.Prelude.{ℕ, ◌+◌, ◌*◌, Bool, List, Option, None, eqb, ℤ, length, get_or, drop, Result, Ok, Err}
 use Rattle.std.specs.Int.{w64}
 use Rattle.std.proofs.Common.{to_z}
 use Rattle.laws.specs.Choice.{pick, both}

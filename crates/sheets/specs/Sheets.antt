@@ -126,7 +126,7 @@ unfoldable pub month_joined : Month → Month → Result Month TooLarge
 month_joined a b = where_it_fits month_fits (month_over a b)
 
 -- what whoever joins has then: the sum, or the first as it was
-abbrev pub kept : {T : Type 0} → T → Result T TooLarge → T
+abbrev pub kept : {T E : Type 0} → T → Result T E → T
 kept first (Ok sum) = sum
 kept first (Err e) = first
 

@@ -1,7 +1,9 @@
 -- 01, "Interrupts and pins", any-motion: the point that a sample gives, by a detector's axes (any-motion's are the byte of 0x16) and its
 -- threshold (0x28).
-use Rattle.std.specs.Prelude.{ℕ, ◌*◌, ◌%◌, Bool, false, not, eqb, ltb}
-use Rattle.laws.specs.Choice.{pick, either}
+use Rattle.std.specs.Prelude.{ℕ, ◌*◌, ◌%◌, Bool, false, eqb, ltb}
+use Rattle.std.specs.declared.option.Option.TheVariants as option
+use Rattle.std.specs.Prelude.{Option}
+use Rattle.laws.specs.Choice.{pick}
 use Rattle.laws.specs.Bits.{bit}
 use Rattle.slopes.specs.declared.Slope.{Slope}
 use Rattle.slopes.specs.declared.Slopes.{Slopes}
@@ -26,5 +28,6 @@ first_over axes threshold x y z =
     Calm))
 
 -- by the axes and the threshold: "The first sample gives no point, nor does any sample while no axis is enabled"
-unfoldable pub point_of : ℕ → ℕ → Slopes → Point
-point_of axes threshold s = pick (either (not s.known) (no_axis axes)) None (first_over axes threshold s.x s.y s.z)
+unfoldable pub point_of : ℕ → ℕ → Option Slopes → Point
+point_of axes threshold option.None = None
+point_of axes threshold (option.Some s) = pick (no_axis axes) None (first_over axes threshold s.x s.y s.z)

@@ -9,23 +9,24 @@ ghost use Rattle.slopes.specs.Runs.{no_runs, longer, over_run, calm_run};
 
 use laws::bit;
 
-// The size of the difference of two samples, and whether it is negative.
+// The size of the difference of two samples, and whether it is negative: the rules ask for either alone, and a signed number would be
+// taken apart at each.
 #[derive(Clone, Copy)]
 pub struct Slope {
     pub size: u32,
     pub falling: bool,
 }
 
-// The slopes of a sample's axes; nothing is known of them where no sample came before it.
+// The slopes of a sample's axes.
 #[derive(Clone, Copy)]
 pub struct Slopes {
-    pub known: bool,
     pub x: Slope,
     pub y: Slope,
     pub z: Slope,
 }
 
-// The sample before the next one, if it is known.
+// The sample before the next one, if it is known. The flag stands beside it, since the theorem on points speaks of it
+// (`points/proofs/Points: Follows`). In 8 bytes, which move as one.
 #[repr(C)]
 #[derive(Clone, Copy)]
 pub struct Previous {
@@ -35,7 +36,8 @@ pub struct Previous {
     known: bool,
 }
 
-// What a sample gives: no point, a calm one, or one that is over on an axis (1 is x, 2 is y, 4 is z), with its sign.
+// What a sample gives: no point, a calm one, or one that is over on an axis (1 is x, 2 is y, 4 is z), with its sign. The detectors go by
+// all three in one match, which an `Option` would make two.
 #[derive(Clone, Copy)]
 pub enum Point {
     None,
@@ -55,16 +57,9 @@ pub fn slope_between(old: i16, new: i16) -> Slope
     ensures { result ≡ slope_of old new }
 {
     let difference = new as i32 - old as i32;
-    if difference < 0 {
-        Slope {
-            size: (-difference) as u32,
-            falling: true,
-        }
-    } else {
-        Slope {
-            size: difference as u32,
-            falling: false,
-        }
+    Slope {
+        size: difference.unsigned_abs(),
+        falling: difference < 0,
     }
 }
 
@@ -86,9 +81,9 @@ impl Previous {
         ensures { result ≡ remembered x y z }
     {
         Previous {
-            x: x,
-            y: y,
-            z: z,
+            x,
+            y,
+            z,
             known: true,
         }
     }
@@ -100,19 +95,19 @@ impl Previous {
         self
     }
 
-    // The slopes from it to the next sample.
+    // The slopes from it to the next sample; none where no sample came before that.
     #[tactic(auto, unfolding(crate::specs::Previous::slopes_to))]
-    pub fn slopes_to(self, x: i16, y: i16, z: i16) -> Slopes
+    pub fn slopes_to(self, x: i16, y: i16, z: i16) -> Option<Slopes>
         ensures { result ≡ slopes_to x y z self }
     {
-        let on_x = slope_between(self.x, x);
-        let on_y = slope_between(self.y, y);
-        let on_z = slope_between(self.z, z);
-        Slopes {
-            known: self.known,
-            x: on_x,
-            y: on_y,
-            z: on_z,
+        if self.known {
+            Some(Slopes {
+                x: slope_between(self.x, x),
+                y: slope_between(self.y, y),
+                z: slope_between(self.z, z),
+            })
+        } else {
+            None
         }
     }
 }
@@ -129,11 +124,7 @@ fn over_on(place: u8, axes: u8, threshold: u8, slope: Slope) -> bool
     ensures { result ≡ over_on place axes threshold slope }
 {
     let limit = 4 * threshold as u32;
-    if bit(axes, place) {
-        limit < slope.size
-    } else {
-        false
-    }
+    bit(axes, place) && limit < slope.size
 }
 
 // The first axis that is over.
@@ -155,19 +146,15 @@ fn first_over(axes: u8, threshold: u8, x: Slope, y: Slope, z: Slope) -> Point
 
 // The point that slopes give, by a detector's axes (bits 2:0 count) and its threshold.
 #[tactic(auto, unfolding(crate::specs::Point::point_of))]
-pub fn judge(axes: u8, threshold: u8, slopes: Slopes) -> Point
+pub fn judge(axes: u8, threshold: u8, slopes: Option<Slopes>) -> Point
     ensures { result ≡ point_of axes threshold slopes }
 {
-    if !slopes.known {
-        return Point::None;
+    match slopes {
+        Some(slopes) if !no_axis(axes) => {
+            first_over(axes, threshold, slopes.x, slopes.y, slopes.z)
+        }
+        _ => Point::None,
     }
-    if no_axis(axes) {
-        return Point::None;
-    }
-    let x = slopes.x;
-    let y = slopes.y;
-    let z = slopes.z;
-    first_over(axes, threshold, x, y, z)
 }
 
 // A run that is longer by one point, counted as far as n.
@@ -194,7 +181,7 @@ impl Runs {
         self
     }
 
-    // A calm point comes.
+    // A calm point comes. With `after_over` it has the two fields the other way round, as the definitions have them: no plainer as one.
     #[tactic(auto, unfolding(crate::specs::Runs::calm_run))]
     pub fn after_calm(mut self, n: u8) -> Self
         ensures { result ≡ calm_run n self }

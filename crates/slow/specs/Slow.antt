@@ -1,7 +1,7 @@
 -- Q-6: slow motion and no-motion are one detector. Slow motion's runs and the alarm of both are as any-motion's; no-motion's clock is a spell
 -- whose run begins with a stopwatch that is started: "It fires at a calm point when the clock since the last over point, restart or expiry has
 -- reached that".
-use Rattle.std.specs.Prelude.{ℕ, Bool, false, eqb}
+use Rattle.std.specs.Prelude.{ℕ, Bool, false, eqb, Option}
 use Rattle.laws.specs.Bits.{bit}
 use Rattle.laws.specs.Choice.{pick}
 use Rattle.codes.specs.Wait.{wait_of}
@@ -50,11 +50,11 @@ calm_shown Calm wait = pick (eqb wait 0) Nothing (Met 0 false)
 calm_shown (Over axis falling) wait = FarFromMet
 
 -- no-motion at an accepted sample
-unfoldable pub no_motion_sampled : Settings → Slopes → Slow → Slow
+unfoldable pub no_motion_sampled : Settings → Option Slopes → Slow → Slow
 no_motion_sampled g slopes s =
     let wait = wait_of g.points in
     with_spell (spell.after_sample started (calm_shown (point_of g.axes g.threshold slopes) wait) wait g.unlatched g.hold (spell_of s)) s
 
 -- an accepted sample: "Slow motion counts points as any-motion does"
-unfoldable pub sampled : Settings → Slopes → Slow → Slow
+unfoldable pub sampled : Settings → Option Slopes → Slow → Slow
 sampled g slopes s = pick (is_no_motion g.axes) (no_motion_sampled g slopes s) (record { motion = after_sample g slopes s.motion; watch = s.watch })

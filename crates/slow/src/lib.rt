@@ -58,29 +58,25 @@ impl Slow {
     pub fn alarm(self) -> Alarm
         ensures { result ≡ self.motion.alarm }
     {
-        let motion = self.motion;
-        motion.alarm()
+        self.motion.alarm()
     }
 
     // No-motion's clock, with the alarm.
     fn spell(self) -> Spell
         ensures { result ≡ spell_of self }
     {
-        let motion = self.motion;
-        let watch = self.watch;
-        let alarm = motion.alarm();
-        Spell { watch, alarm }
+        Spell {
+            watch: self.watch,
+            alarm: self.alarm(),
+        }
     }
 
     // With another clock and alarm.
     fn with_spell(mut self, spell: Spell) -> Self
         ensures { result ≡ with_spell spell self }
     {
-        let motion = self.motion;
-        let watch = spell.watch;
-        let alarm = spell.alarm;
-        self.motion = motion.with_alarm(alarm);
-        self.watch = watch;
+        self.motion = self.motion.with_alarm(spell.alarm);
+        self.watch = spell.watch;
         self
     }
 
@@ -89,8 +85,7 @@ impl Slow {
     pub fn restart(mut self) -> Self
         ensures { result ≡ restarted self }
     {
-        let motion = self.motion;
-        self.motion = motion.restart();
+        self.motion = self.motion.restart();
         self.watch = Stopwatch::started();
         self
     }
@@ -100,38 +95,39 @@ impl Slow {
     pub fn clock(mut self, microseconds: u32) -> Self
         ensures { result ≡ clocked microseconds self }
     {
-        let motion = self.motion;
-        let spell = self.spell();
-        let later = spell.clock(Stopwatch::started(), microseconds);
-        let watch = later.watch;
-        self.motion = motion.clock(microseconds);
-        self.watch = watch;
+        let later = self.spell().clock(Stopwatch::started(), microseconds);
+        self.motion = self.motion.clock(microseconds);
+        self.watch = later.watch;
         self
     }
 
     // No-motion at an accepted sample, with its slopes.
     #[tactic(auto, unfolding(crate::specs::Slow::no_motion_sampled))]
-    fn no_motion_sample(self, settings: Settings, slopes: Slopes) -> Self
+    fn no_motion_sample(self, settings: Settings, slopes: Option<Slopes>) -> Self
         ensures { result ≡ no_motion_sampled settings slopes self }
     {
-        let spell = self.spell();
         let wait = wait_of(settings.points);
         let point = judge(settings.axes, settings.threshold, slopes);
-        let shown = calm_shown(point, wait);
-        let fresh = Stopwatch::started();
-        self.with_spell(spell.sample(fresh, shown, wait, settings.unlatched, settings.hold))
+        self.with_spell(
+            self.spell().sample(
+                Stopwatch::started(),
+                calm_shown(point, wait),
+                wait,
+                settings.unlatched,
+                settings.hold,
+            ),
+        )
     }
 
     // An accepted sample comes, with its slopes.
     #[tactic(auto, unfolding(crate::specs::Slow::sampled))]
-    pub fn sample(mut self, settings: Settings, slopes: Slopes) -> Self
+    pub fn sample(mut self, settings: Settings, slopes: Option<Slopes>) -> Self
         ensures { result ≡ sampled settings slopes self }
     {
         if is_no_motion(settings.axes) {
             return self.no_motion_sample(settings, slopes);
         }
-        let motion = self.motion;
-        self.motion = motion.sample(settings, slopes);
+        self.motion = self.motion.sample(settings, slopes);
         self
     }
 }

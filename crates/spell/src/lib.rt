@@ -32,15 +32,8 @@ impl Stopwatch {
     pub fn clock(mut self, microseconds: u32) -> Self
         ensures { result ≡ longer microseconds self }
     {
-        let count = self.count;
-        if count == 0 {
-            return self;
-        }
-        let room = 0xFFFF_FFFF - count;
-        if microseconds < room {
-            self.count = count + microseconds;
-        } else {
-            self.count = count + room;
+        if self.count > 0 {
+            self.count = self.count.saturating_add(microseconds);
         }
         self
     }
@@ -97,10 +90,9 @@ impl Spell {
     pub fn restart(self, fresh: Stopwatch) -> Self
         ensures { result ≡ restarted fresh self }
     {
-        let alarm = self.alarm;
         Spell {
             watch: fresh,
-            alarm: alarm.clear(),
+            alarm: self.alarm.clear(),
         }
     }
 
@@ -109,17 +101,14 @@ impl Spell {
     pub fn clock(self, fresh: Stopwatch, microseconds: u32) -> Self
         ensures { result ≡ clocked fresh microseconds self }
     {
-        let watch = self.watch;
-        let alarm = self.alarm;
-        let lapse = alarm.clock(microseconds);
-        match lapse {
+        match self.alarm.clock(microseconds) {
             Lapse::Stands(waiting) => Spell {
-                watch: watch.clock(microseconds),
+                watch: self.watch.clock(microseconds),
                 alarm: waiting,
             },
             Lapse::Expires(rest) => Spell {
                 watch: fresh.clock(rest),
-                alarm: alarm.clear(),
+                alarm: self.alarm.clear(),
             },
         }
     }
@@ -148,12 +137,9 @@ impl Spell {
     fn after_met(mut self, mark: u8, negative: bool, time: u32, hold: u32) -> Self
         ensures { result ≡ after_met mark negative time hold self }
     {
-        let watch = self.watch;
-        let alarm = self.alarm;
-        let on = watch.going_on();
-        self.watch = on;
-        if on.has_reached(time) {
-            self.alarm = alarm.raise(mark, negative, hold);
+        self.watch = self.watch.going_on();
+        if self.watch.has_reached(time) {
+            self.alarm = self.alarm.raise(mark, negative, hold);
         }
         self
     }
@@ -162,10 +148,9 @@ impl Spell {
     fn after_unmet(mut self, fresh: Stopwatch, clears: bool) -> Self
         ensures { result ≡ after_unmet fresh clears self }
     {
-        let alarm = self.alarm;
         self.watch = fresh;
         if clears {
-            self.alarm = alarm.clear();
+            self.alarm = self.alarm.clear();
         }
         self
     }

@@ -81,9 +81,7 @@ fn run_over<F: Follower>(state: State<F>, buffer: &[u8], text: &mut [u8]) -> Ran
     let window = state.window;
     let from = window.from;
     let to = window.to;
-    state
-        .follower
-        .run(&buffer[from..to], window.last, text)
+    state.follower.run(&buffer[from..to], window.last, text)
 }
 
 // The state behind a run whose text is written.
@@ -99,11 +97,7 @@ fn after_run<F: Follower>(state: State<F>, ran: Ran<F>) -> State<F>
 }
 
 // More of the input behind what is not used.
-fn read_more<R: Read, F: Follower>(
-    input: &mut R,
-    state: State<F>,
-    buffer: &mut [u8],
-) -> Turned<F>
+fn read_more<R: Read, F: Follower>(input: &mut R, state: State<F>, buffer: &mut [u8]) -> Turned<F>
     ensures { MoreReadAs result.how state buffer.old result.state buffer.new }
 {
     let follower = state.follower;

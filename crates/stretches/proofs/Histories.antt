@@ -49,7 +49,7 @@ use Rattle.recorded.specs.Recorded.{Recorded, events_of, before_own, answer_to}
 use Rattle.recorded.proofs.Recorded.{events-append, till-own}
 use Rattle.counts.specs.declared.Counts.{Counts}
 use Rattle.counts.specs.declared.Doubt.{Doubt}
-use Rattle.counts.specs.declared.Doubt.TheVariants.{No, By}
+use Rattle.std.proofs.Common.{Option, None, Some}
 use Rattle.counts.specs.declared.Why.TheVariants as why
 use Rattle.counts.specs.Counts as counts
 use Rattle.counts.specs.Counts.{sum, less, differences, left, arrived, first_account}
@@ -88,7 +88,7 @@ read-why : (es : List Event) (a n : ℕ) → why_of_read a (read_answer a n) ≡
 unfolding why_of_read why_at
 read-why es a n = rw (← readout-is a n) (go (eqb a frames_at) (accepted (read_answer a n)))
   where
-    go : (t s : Bool) → pick t (pick s why.Readout why.Nothing) why.Nothing ≡ pick (both s t) why.Readout why.Nothing
+    go : (t s : Bool) → pick t (pick s (Some why.Readout) None) None ≡ pick (both s t) (Some why.Readout) None
     go true true = refl
     go true false = refl
     go false true = refl
@@ -345,7 +345,7 @@ number-next : (n : ℕ) → suc n < 2 ^ 64 → sum n 1 ≡ suc n
 number-next n room = sum_is n 1 (omega arith) ∙ omega arith
 
 -- behind a write, of what any register sets
-doubt-written : (about : ℕ) (before : Doubt) (number : ℕ) (es : List Event) (a byte : ℕ)
+doubt-written : (about : ℕ) (before : Option Doubt) (number : ℕ) (es : List Event) (a byte : ℕ)
     → doubt_after before about a byte (write_answer (after es).regs a byte) number ≡ doubt_behind about before number es (write a byte)
 unfolding doubt_after
 doubt-written about before number es a byte = rw (write-is es a byte)

@@ -11,7 +11,7 @@ use Rattle.events.specs.Event.{Event, power_up, write, read, sample, cycle, cloc
 use Rattle.paper.specs.Stored.{is_soft_reset, byte_by, is_accepted}
 use Rattle.recorded.specs.Recorded.{Recorded, events_of, before_own}
 use Rattle.counts.specs.declared.Doubt.{Doubt}
-use Rattle.counts.specs.declared.Doubt.TheVariants.{No, By}
+use Rattle.std.proofs.Common.{Option}
 use Rattle.stretches.specs.Histories.{doubt_behind, doubt_of, is_of}
 use Rattle.stretches.proofs.Histories.{byte-wait}
 
@@ -29,7 +29,7 @@ module _ (about : ℕ) (es : List Event) where
   byte-kept cycle h = refl
   byte-kept (clock us) h = refl
 
-  doubt-kept : (before : Doubt) (number : ℕ) (e : Event) → is_of about e ≡ false → doubt_behind about before number es e ≡ before
+  doubt-kept : (before : Option Doubt) (number : ℕ) (e : Event) → is_of about e ≡ false → doubt_behind about before number es e ≡ before
   doubt-kept before number power_up h = cc
   doubt-kept before number (write a byte) h = let n = neither (is_soft_reset a byte) (eqb a about) h in rw (n.0, n.1)
   doubt-kept before number (read a n) h = refl

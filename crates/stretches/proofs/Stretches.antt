@@ -15,6 +15,7 @@ use Rattle.paper.specs.Readouts.{reads_out}
 use Rattle.events.specs.Event.{Event, power_up, write, read, sample, cycle, clock}
 use Rattle.recorded.specs.Recorded.{Recorded, events_of}
 use Rattle.counts.specs.declared.Why.TheVariants as why
+use Rattle.std.proofs.Common.{None, Some}
 use Rattle.counts.specs.Counts.{differences, ends}
 use Rattle.stretches.specs.Histories.{counts_of, account_of, why_at, is_end, last_end, Stretch, ending_with, stretches, Adjacent, Conserved, apart, Part, unended, Between, EndAt, Each, over, inside, together}
 use Rattle.stretches.proofs.Histories.{grows, conserved, differences-are}
@@ -25,14 +26,13 @@ unfolding why_at
 ends_is es power_up = refl
 ends_is es (write a byte) = go (is_soft_reset a byte) (eqb a range_at) (is_accepted es a byte)
   where
-    go : (r s t : Bool) → ends (pick r why.Reset (pick s (pick t why.Range why.Refused) why.Nothing)) ≡ either r s
+    go : (r s t : Bool) → ends (pick r (Some why.Reset) (pick s (Some (pick t why.Range why.Refused)) None)) ≡ either r s
     go true s t = refl
-    go false true true = refl
-    go false true false = refl
+    go false true t = refl
     go false false t = refl
 ends_is es (read a n) = go (reads_out a n)
   where
-    go : (t : Bool) → ends (pick t why.Readout why.Nothing) ≡ either t false
+    go : (t : Bool) → ends (pick t (Some why.Readout) None) ≡ either t false
     go true = refl
     go false = refl
 ends_is es (sample x y z temperature) = refl

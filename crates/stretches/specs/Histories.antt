@@ -1,6 +1,6 @@
 -- The account, from the records alone: what the histories say of a log. Numbers are of records, counts those of their events. In a history
 -- the latest stands first.
-use Rattle.std.specs.Prelude.{ℕ, suc, ◌+◌, ◌-◌, ◌≤◌, Bool, false, not, List, [], ◌∷◌, ◌++◌, ◌≡◌, eqb, length}
+use Rattle.std.specs.Prelude.{ℕ, suc, ◌+◌, ◌-◌, ◌≤◌, Bool, false, not, List, [], ◌∷◌, ◌++◌, ◌≡◌, eqb, length, Option, None, Some}
 use Rattle.std.proofs.Math.Option.{some}
 use Rattle.std.proofs.Math.ListN.{get_elem?}
 use Rattle.laws.specs.Bits.{worth}
@@ -22,7 +22,6 @@ use Rattle.recorded.specs.Recorded.{Recorded, events_of, before_own, answer_to}
 use Rattle.counts.specs.declared.Account.{Account}
 use Rattle.counts.specs.declared.Counts.{Counts}
 use Rattle.counts.specs.declared.Doubt.{Doubt}
-use Rattle.counts.specs.declared.Doubt.TheVariants.{No, By}
 use Rattle.counts.specs.declared.Doubts.{Doubts}
 use Rattle.counts.specs.declared.Why.{Why}
 use Rattle.counts.specs.declared.Why.TheVariants as why
@@ -54,13 +53,13 @@ counts_of es =
 
 -- what the register at an address sets is in doubt while the last write to it since power-up or soft reset was a refused one: the byte of
 -- that write, and the number of its record. es came before the event
-abbrev pub doubt_behind : ℕ → Doubt → ℕ → List Event → Event → Doubt
+abbrev pub doubt_behind : ℕ → Option Doubt → ℕ → List Event → Event → Option Doubt
 doubt_behind about before number es e =
-    pick (starts_anew e) No
-    (at_write before (λ a byte. pick (eqb a about) (pick (is_accepted es a byte) No (By byte number)) before) e)
+    pick (starts_anew e) None
+    (at_write before (λ a byte. pick (eqb a about) (pick (is_accepted es a byte) None (Some (record { byte = byte; number = number }))) before) e)
 
-unfoldable pub doubt_of : ℕ → List Recorded → Doubt
-doubt_of about [] = No
+unfoldable pub doubt_of : ℕ → List Recorded → Option Doubt
+doubt_of about [] = None
 doubt_of about (r ∷ rs) = doubt_behind about (doubt_of about rs) (suc (length rs)) (before_own r rs) r.own
 
 -- of the range, by 0x0F, and of the mode, by 0x3E
@@ -89,14 +88,14 @@ stepped (r ∷ rs) =
 
 -- why a stretch ends with an event that es came before: "a readout: an accepted read at 0x3F; a write to 0x0F, accepted or refused; a soft
 -- reset"
-unfoldable pub why_at : List Event → Event → Why
+unfoldable pub why_at : List Event → Event → Option Why
 why_at es e =
-    pick (starts_anew e) why.Reset
-    (pick (at_read false reads_out e) why.Readout
-    (at_write why.Nothing (λ a byte. pick (eqb a range_at) (pick (is_accepted es a byte) why.Range why.Refused) why.Nothing) e))
+    pick (starts_anew e) (Some why.Reset)
+    (pick (at_read false reads_out e) (Some why.Readout)
+    (at_write None (λ a byte. pick (eqb a range_at) (Some (pick (is_accepted es a byte) why.Range why.Refused)) None) e))
 
 -- and with a record
-abbrev pub why_with : Recorded → List Recorded → Why
+abbrev pub why_with : Recorded → List Recorded → Option Why
 why_with r rs = why_at (before_own r rs) r.own
 
 -- what has to do with what the register at an address sets: a write to it, accepted or refused; power-up and a soft reset
@@ -123,7 +122,7 @@ last_end (r ∷ rs) = pick (is_end r.own) (r ∷ rs) (last_end rs)
 pub record Stretch : Type 0 where
   pub from : List Recorded
   pub to : List Recorded
-  pub why : Why
+  pub why : Option Why
 
 -- the one that ends with a record, where one does
 abbrev pub ending_with : Recorded → List Recorded → Stretch
@@ -173,7 +172,7 @@ Part earlier rs = (later : List Recorded) × (rs ≡ later ++ earlier)
 
 -- the stretch that has not ended, from the last end on
 abbrev pub unended : List Recorded → Stretch
-unended rs = record { from = last_end rs; to = rs; why = why.Nothing }
+unended rs = record { from = last_end rs; to = rs; why = None }
 
 -- stretches, the latest first, that lead from the history h to the history k: each begins where the one before it ended
 abbrev pub Between : List Recorded → List Stretch → List Recorded → Type 0

@@ -140,14 +140,7 @@ pub fn row_at(address: u8) -> Row
 pub fn reset_bytes() -> [u8; 64]
     ensures { result ≡ reset_bytes }
 {
-    let mut bytes = [0u8; 64];
-    let mut i: usize = 0;
-    while i < 64 {
-        let row = row_in_table(i as u8);
-        bytes[i] = row.0;
-        i += 1;
-    }
-    bytes
+    ROWS.map(|row| row.0)
 }
 
 // The byte that a register holds after a write: the masked bits of the new one, the others as at reset.

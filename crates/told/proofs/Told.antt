@@ -11,11 +11,12 @@ use lib.Seq.{drop-nil}
 use borrow.Author.Tests.{eqb-true, eqb-false, ltb-true, ltb-false, lt-ltb, le-ltb}
 use Rattle.laws.specs.Choice.{pick}
 use Rattle.laws.proofs.Finite.{of-pick}
+use Rattle.std.specs.Prelude.{Result, Ok, Err}
 use Rattle.benchlog.specs.Reader.{read_version}
 use Rattle.benchlog.specs.Walk.{Walked, walk, behind_version, walk_log}
 use Rattle.benchlog.specs.Whole.{look_record}
-use Rattle.benchlog.specs.declared.Begins.{Begins}
-use Rattle.benchlog.specs.declared.Begins.TheVariants as begins
+use Rattle.benchlog.specs.Answers.{refusal_number}
+use Rattle.benchlog.specs.declared.Refusal.{Refusal}
 use Rattle.benchlog.specs.declared.Entry.{Entry}
 use Rattle.benchlog.proofs.Logs.{few-records}
 use Rattle.events.specs.Run.{after}
@@ -127,16 +128,16 @@ ends_with asked stop = rw (no-mark asked, account-first)
 -- whatever is asked of a log, what is printed is what the histories say
 pub told_is : (asked : Asked) (log : List ℕ) → length log < 2 ^ 64 → printed asked log ≡ told asked log
 unfolding said_from walk_log told history_of start told_of said_of
-told_is asked log room = go (read_version log).begins (few-records log)
+told_is asked log room = go (read_version log) (few-records log)
   where
-    walked : Walked Entry
-    walked = walk look_record (drop (read_version log).next log)
+    walked : ℕ → Walked Entry
+    walked next = walk look_record (drop next log)
 
-    go : (b : Begins) → length (behind_version b walked).items ≤ length log - 1 →
+    go : (b : Result ℕ Refusal) → length (behind_version b walked).items ≤ length log - 1 →
         let l = behind_version b walked in
         let rs = records_behind [] l.items in
         text_of_log answerer (start asked) l ≡ told_of asked rs ++ end_of asked l.begun rs l.stop
-    go begins.Version few =
-        ap (λ s. text_of answerer s walked.items walked.stop) (begins-with asked) ∙ lines-told asked walked.items walked.stop [] (omega arith)
-    go begins.WrongVersion few = ends_with asked 7
-    go begins.Empty few = ends_with asked 9
+    go (Ok next) few =
+        let w = walked next in
+        ap (λ s. text_of answerer s w.items w.stop) (begins-with asked) ∙ lines-told asked w.items w.stop [] (omega arith)
+    go (Err refusal) few = ends_with asked (refusal_number refusal)

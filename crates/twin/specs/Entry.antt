@@ -14,9 +14,9 @@ use Rattle.device.specs.Parts.{whole}
 use Rattle.device.specs.declared.Device.{Device}
 use Rattle.device.specs.declared.Answered.{Answered}
 use Rattle.events.specs.Event.{Event, write, read, sample, cycle, clock, happens, lent_by}
-use Rattle.benchlog.specs.Answers.{found_number}
+use Rattle.benchlog.specs.Answers.{refusal_number}
 use Rattle.benchlog.specs.Format.{write_kind, read_kind, sample_kind, cycle_kind, clock_kind}
-use Rattle.benchlog.specs.declared.Found.TheVariants.{WrongRecord}
+use Rattle.benchlog.specs.declared.Refusal.TheVariants.{WrongRecord}
 use Rattle.twin.specs.declared.Harness.{Harness}
 use Rattle.twin.specs.declared.Stepped.{Stepped}
 
@@ -58,7 +58,7 @@ stepped_whole r regs frames = record { number = r.number; device = whole r.core 
 -- what is asked for, done; without an event 8, "record length or kind wrong", and the device as it was
 abbrev pub step_of : Device → Option Event → Numbered
 step_of d (some e) = numbered_of (happens d e)
-step_of d none = record { number = found_number WrongRecord; device = d }
+step_of d none = record { number = refusal_number WrongRecord; device = d }
 
 -- the lent buffer after it
 abbrev pub lent_at : Device → Option Event → List ℕ → List ℕ

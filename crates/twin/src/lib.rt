@@ -10,7 +10,7 @@ ghost use Rattle.device.specs.Parts.{whole};
 ghost use Rattle.registers.specs.Answers.{number};
 ghost use Rattle.twin.specs.Entry.{harness_type, device_in, asked, step_of, stepped_whole, lent_at, pins_code, level_code};
 
-use benchlog::{CLOCK, CYCLE, Found, READ, SAMPLE, WRITE, found_number_of};
+use benchlog::{CLOCK, CYCLE, READ, Refusal, SAMPLE, WRITE};
 use device::Device;
 use device::parts::{Core, CoreAnswered};
 use fifo::ROOM;
@@ -36,11 +36,9 @@ pub struct Stepped {
 fn numbered(done: CoreAnswered) -> Stepped
     ensures { result ≡ record { number = number done.answer; core = done.core } }
 {
-    let answer = done.answer;
-    let core = done.core;
     Stepped {
-        number: number_of(answer),
-        core,
+        number: number_of(done.answer),
+        core: done.core,
     }
 }
 
@@ -71,7 +69,7 @@ pub fn step(
         CYCLE => numbered(core.start_cycle()),
         CLOCK => numbered(core.clock(microseconds)),
         _ => Stepped {
-            number: found_number_of(Found::WrongRecord),
+            number: u8::from(Refusal::WrongRecord),
             core,
         },
     }
@@ -94,9 +92,7 @@ pub fn pins_code(core: Core, regs: [u8; 64]) -> u8
     ensures { (frames : List ℕ) → result ≡ pins_code (whole core regs frames) }
 {
     let pins = core.pins(&regs);
-    let first = pins.int1;
-    let second = pins.int2;
-    level_code(first) + 4 * level_code(second)
+    level_code(pins.int1) + 4 * level_code(pins.int2)
 }
 
 impl Harness {
@@ -105,10 +101,11 @@ impl Harness {
         ensures { device_in result ≡ power_up }
     {
         let device = Device::power_up();
-        let regs = device.registers();
-        let core = device.core();
-        let frames = device.frames();
-        Harness { regs, core, frames }
+        Harness {
+            regs: device.registers(),
+            core: device.core(),
+            frames: device.frames(),
+        }
     }
 }
 

@@ -11,7 +11,6 @@ ghost use Rattle.laws.specs.Bytes.{moved_forward};
 ghost use Rattle.window.specs.Window.{start, past, at_front, with_read, more_of, RefilledAs};
 
 pub use given::ReadFailed;
-
 use given::{Got, read_into};
 use laws::{least, move_forward};
 use std::io::Read;

@@ -3,4 +3,4 @@ use Rattle.interrupts.proofs.statuses_of.Goals as goal
 
 pub returns : goal.returns
 unfolding statuses_of
-returns c = simp (c.both-3.ensures, c.bit-3.ensures, c.both-2.ensures, c.reached.ensures, c.bit-2.ensures, c.both.ensures, c.bit.ensures)
+returns c = simp (c.bit-3.ensures, c.reached.ensures, c.bit-2.ensures, c.bit.ensures)

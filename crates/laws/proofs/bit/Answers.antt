@@ -5,6 +5,7 @@ use native.Mathlib.Omega.{arith}
 use native.Mathlib.Nat.{div-eq_of_lt}
 use lib.Pow.{pow_mono}
 use borrow.Author.Rules.{rules}
+use borrow.Author.Tests.{le-ltb}
 use Rattle.laws.specs.Bits.{bit}
 use Rattle.laws.proofs.bit.Goals as goal
 
@@ -17,4 +18,4 @@ unfolding bit
 returns-else-place-lt8 c =
     let p : 2 ^ 8 ≤ 2 ^ c.args.place = pow_mono {i = 8} {j = c.args.place} (omega arith) in
     let z : c.args.byte / 2 ^ c.args.place ≡ 0 = div-eq_of_lt (omega arith) in
-    simp z
+    simp (le-ltb _ _ c.if-place-lt8.false, z)

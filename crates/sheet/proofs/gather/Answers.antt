@@ -4,14 +4,10 @@ use Rattle.sheet.specs.Program.{Gathered}
 use Rattle.sheet.proofs.gather.Goals as goal
 
 pub loop-i-init : goal.loop-i-init
-loop-i-init c = record { gathered = rw c.empty.ensures Gathered.none; from = omega arith; upto = omega arith }
+loop-i-init c = rw c.empty.ensures Gathered.none
 
 pub loop-i-preserved : goal.loop-i-preserved
 loop-i-preserved c =
     let l = c.loop-i in
-    let one : l.i + 1 - 2 ≡ suc (l.i - 2) = omega (arith, l.invariant.from) in
-    record {
-      gathered = rw one (Gathered.more l.invariant.gathered c.take_word-gathering.ensures);
-      from = omega (arith, l.invariant.from);
-      upto = omega (arith, l.invariant.from, c.loop-i-test.true);
-    }
+    let one : l.i + 1 - 2 ≡ suc (l.i - 2) = omega (arith, l.auto.i) in
+    rw one (Gathered.more l.invariant c.take_word-gathering.ensures)

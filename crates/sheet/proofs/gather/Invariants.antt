@@ -1,10 +1,7 @@
 -- So many names are taken as stand before the word that is next.
-use Rattle.std.proofs.Common.{◌-◌, ◌≤◌}
+use Rattle.std.proofs.Common.{◌-◌}
 use Rattle.sheet.specs.Program.{Gathered}
 use Rattle.sheet.proofs.gather.Given as goal
 
 abbrev pub invariant-loop-i : goal.invariant-loop-i
-invariant-loop-i l = record { gathered : Gathered l.join (l.i - 2) l.gathering; from : 2 ≤ l.i; upto : l.i - 2 ≤ l.count - 2 }
-
-abbrev pub decreases-loop-i : goal.decreases-loop-i
-decreases-loop-i l = l.count - l.i
+invariant-loop-i l = Gathered l.join (l.i - 2) l.gathering

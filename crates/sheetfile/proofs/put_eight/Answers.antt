@@ -1,13 +1,12 @@
--- The number's two halves are written one behind the other.
-use Prim.Native.Nat.{◌%◌}
-use mathlib.Core.Path.{refl}
+use mathlib.Core.Path.{◌∙◌}
 use native.Mathlib.Omega.{arith}
-use Rattle.benchlog.specs.Format.{big_endian4}
-use Rattle.benchlog.proofs.Places.{put_on}
-use Rattle.sheetfile.specs.Format.{big_endian8}
+use Rattle.benchlog.proofs.Fields.{copied}
+use Rattle.sheetfile.proofs.Eight.{eight-bytes}
+use Rattle.sheetfile.proofs.Lengths.{length-eight}
 use Rattle.sheetfile.proofs.put_eight.Goals as goal
 
 pub returns : goal.returns
-unfolding big_endian8
 returns c =
-    (put_on (big_endian4 (c.args.number % 4294967296)) (record { room = omega arith; is = c.put_four.ensures }) (omega arith) refl c.put_four-2.ensures).is
+    let a = c.args in
+    rw (c.copy_from_slice.ensures.after ∙ c.to_be_bytes.ensures ∙ eight-bytes a.number c.ranges.number.fits)
+    (copied a.out.now a.at _ _ (omega (arith, length-eight a.number)))

@@ -1,9 +1,13 @@
-use mathlib.Core.Path.{refl}
+use mathlib.Core.Path.{refl, ◌∙◌}
 use native.Mathlib.Omega.{arith}
+use Rattle.benchlog.specs.Format.{big_endian4}
 use Rattle.benchlog.proofs.Places.{put-store}
-use Rattle.sheetfile.specs.Format.{head_bytes}
+use Rattle.benchlog.proofs.Fields.{copied_first}
+use Rattle.sheetfile.specs.Format.{mark, head_bytes}
 use Rattle.sheetfile.proofs.put_head.Goals as goal
 
 pub returns : goal.returns
 unfolding head_bytes
-returns c = (put-store _ (record { room = omega arith; is = c.put_four.ensures }) (omega arith) refl).is
+returns c =
+    let a = c.args in
+    (put-store _ (copied_first a.out.now a.at _ (big_endian4 mark) (omega arith) (omega arith) (c.copy_from_slice.ensures.after ∙ c.to_be_bytes.ensures)) (omega arith) refl).is

@@ -1,9 +1,9 @@
-use Prim.Native.Nat.{◌+◌, ◌≤◌}
-use mathlib.Core.Path.{◌≡◌, refl, sym, ◌∙◌}
+use mathlib.Core.Path.{◌≡◌, refl, sym, ap, ◌∙◌}
 use native.Mathlib.Omega.{arith}
 use borrow.Author.Rules.{rules}
-use Rattle.std.specs.Prelude.{Ok, Err}
-use Rattle.benchlog.specs.Writer.{written}
+use lib.ListN.{length}
+use Rattle.std.specs.Prelude.{Ok}
+use Rattle.benchlog.specs.Writer.{room_for, written}
 use Rattle.benchlog.proofs.Places.{had-room}
 use Rattle.sheetfile.specs.Format.{encode}
 use Rattle.sheetfile.proofs.Lengths.{length-encode}
@@ -12,7 +12,7 @@ use Rattle.sheetfile.proofs.write_month.Goals as goal
 pub returns-in_err-next : goal.returns-in_err-next
 returns-in_err-next c =
     let a = c.args in
-    let is : written a.out.now a.place (encode a.month) ≡ Err c.in_err-next.field-0.0 = rw (length-encode a.month) (sym c.room_for.ensures ∙ c.in_err-next.was) in
+    let is = ap (room_for (length a.out.now) a.place) (length-encode a.month) ∙ sym c.room_for.ensures ∙ c.in_err-next.was in
     rw is (search rules, refl)
 
 pub put_month-requires : goal.put_month-requires
@@ -21,5 +21,6 @@ put_month-requires c = let room = (had-room _ _ _ _ (sym c.room_for.ensures ∙ 
 pub returns : goal.returns
 returns c =
     let a = c.args in
-    let is : written a.out.now a.place (encode a.month) ≡ Ok c.in_ok-next.next = rw (length-encode a.month) (sym c.room_for.ensures ∙ c.in_ok-next.was) in
+    let is : written a.out.now a.place (encode a.month) ≡ Ok c.in_ok-next.next =
+    ap (room_for (length a.out.now) a.place) (length-encode a.month) ∙ sym c.room_for.ensures ∙ c.in_ok-next.was in
     rw is (refl, c.put_month.ensures.0)
