@@ -1,6 +1,6 @@
 -- docs/ANSWER.md, RANGE: what the answer prints as the range, in a stretch's line and in words, by 01's codes of the byte at 0x0F. In a history
 -- the latest event stands first.
-use Rattle.std.specs.Prelude.{ℕ, ◌%◌, Bool, true, List, ◌∷◌, ◌++◌, ◌≡◌, length}
+use Rattle.std.specs.Prelude.{ℕ, ◌%◌, Bool, true, List, ◌∷◌, ◌++◌, ◌≡◌, length, Option}
 use Rattle.text.specs.Text.{ascii, decimal}
 use Rattle.events.specs.Event.{Event}
 use Rattle.paper.specs.Ranges.{is_known_range}
@@ -26,7 +26,7 @@ pub record SaysRange (es : List Event) (word : List ℕ) : Type 0 where
   pub known : is_known_range (byte_by es 0x0F) ≡ true
 
 -- whether it is in doubt
-abbrev pub doubt_by : List Recorded → Doubt
+abbrev pub doubt_by : List Recorded → Option Doubt
 doubt_by rs = doubt_of 0x0F rs
 
 -- "FROM TO RANGE ..": the third column of a stretch's line, "before its last record acts", with its mode or without

@@ -9,10 +9,7 @@ use channels::Channels;
 fn is_data(at: usize) -> bool
     ensures { result ≡ is_data at }
 {
-    match at {
-        0x02..=0x07 => true,
-        _ => false,
-    }
+    matches!(at, 0x02..=0x07)
 }
 
 // The byte of an address.

@@ -63,7 +63,7 @@ fn are_below(summed: bool, limit: u32, x: u32, y: u32, z: u32) -> bool
     if summed {
         return x as u64 + y as u64 + (z as u64) < limit as u64;
     }
-    x < limit && (y < limit && z < limit)
+    x < limit && y < limit && z < limit
 }
 
 // What a sample shows of low-g, by whether it is below the threshold, and below that and the hysteresis.
@@ -120,7 +120,7 @@ fn above_on(place: u8, axes: u8, limit: u32, on: Slope) -> bool
 fn some_above(axes: u8, limit: u32, x: Slope, y: Slope, z: Slope) -> bool
     ensures { result ≡ some_above axes limit x y z }
 {
-    above_on(0, axes, limit, x) || (above_on(1, axes, limit, y) || above_on(2, axes, limit, z))
+    above_on(0, axes, limit, x) || above_on(1, axes, limit, y) || above_on(2, axes, limit, z)
 }
 
 // What a sample shows of high-g: the first enabled axis above the limit, or whether one is above what it clears to. `slopes` picks the first

@@ -2,22 +2,10 @@
 use Prim.Native.Nat.{ℕ, ◌+◌, ◌*◌, ◌/◌, ◌%◌, ◌<◌}
 use mathlib.Core.Path.{◌≡◌}
 use native.Mathlib.Omega.{arith}
-use lib.Bits.{bit_and, and_mask}
-use lib.IntN.{ℤ, pos, negsuc}
-use lib.Signed.{mag}
-use mir.Syntax.{w16, w32}
+use lib.IntN.{ℤ}
+use mir.Syntax.{w16}
 use mir.Val.{to_z, of_z, Fits, SFits}
-use mir.Facts.{to_z-of_z, of_z-to_z, to_z_pos, Fits-of_z, sfits_to_z}
-
-low_bits : (z : ℤ) → mag z < 32768 → of_z w32 z % 65536 ≡ of_z w16 z
-low_bits (pos n) h = omega arith
-low_bits (negsuc n) h = omega arith
-
--- the 16 bits of a signed number, as the code masks them at 32
-pub masked : {z : ℤ} → SFits w16 z → to_z w32 (bit_and (of_z w32 (to_z w16 (of_z w16 z))) 65535) ≡ pos (of_z w16 z)
-masked {z} h =
-    let small : of_z w16 z < 65536 = (Fits-of_z h).fits in
-    rw (to_z-of_z h, and_mask (of_z w32 z) 16, low_bits z h.sfits) (to_z_pos w32 (omega arith))
+use mir.Facts.{to_z-of_z, of_z-to_z, sfits_to_z}
 
 -- its two bytes, joined, are the number again
 pub joined : {z : ℤ} → SFits w16 z → to_z w16 (of_z w16 z / 256 * 256 + of_z w16 z % 256) ≡ z

@@ -13,7 +13,7 @@ use lib.IntN.{ℤ, pos, negsuc, nat_abs}
 use lib.ListN.{length, get_or}
 use lib.Signed.{lt_z}
 use Rattle.laws.specs.Choice.{pick}
-use Rattle.text.specs.Text.{ascii, digit, most_digits, decimal, value, value_on}
+use Rattle.text.specs.Text.{ascii, digit, most_digits, decimal, value_on}
 use Rattle.text.proofs.Texts.{by_digits}
 use Rattle.text.proofs.Numerals.{value-decimal, decimal-zero, no-zero-first}
 use Rattle.measure.specs.Measure.{negative, places, most_places, fraction_text, unsigned_text, signed_text}

@@ -4,10 +4,10 @@
 ghost use Rattle.std.specs.Prelude.{◌≡◌, ◌+◌, ◌*◌, ◌≤◌, ◌<◌, T, nat_abs, length};
 ghost use Rattle.std.specs.Float.{binary32};
 ghost use Rattle.std.specs.Float.Ieee.{in_signed};
-ghost use Rattle.benchlog.specs.Writer.{lacks_room};
 ghost use Rattle.text.specs.Text.{decimal, Pushed, left_in, place_after};
 ghost use Rattle.measure.specs.Measure.{in_g, times1024, whole1024ths, most_places, places, fraction_text, unsigned_text, signed_text, g_text, longest_g};
 
+use benchlog::lacks_room;
 use codes::Range;
 
 const MOST_PLACES: usize = 10;
@@ -40,16 +40,6 @@ fn in_1024ths(g: f32) -> i32
     (g * 1024.0) as i32
 }
 
-fn lacks_room(room: usize, at: usize) -> bool
-    ensures { result ≡ lacks_room room at longest_g }
-{
-    if room < at {
-        true
-    } else {
-        room - at < LONGEST_G
-    }
-}
-
 // ---- pieces, for which there is room
 // A number of three digits at most.
 fn put_whole(out: &mut [u8], at: usize, n: u32) -> usize
@@ -76,17 +66,15 @@ fn put_places(out: &mut [u8], at: usize, rest: u32) -> usize
     requires { (rest < 1024) × (at + most_places ≤ length out.old) }
     ensures { Pushed out.old at (places most_places rest) out.new result }
 {
-    let mut i: usize = 0;
     let mut left = rest;
-    while i < MOST_PLACES {
+    for i in 0..MOST_PLACES {
         if left == NOTHING {
             return at + i;
         }
         out[at + i] = 48 + (left * 10 / 1024) as u8;
         left = left * 10 % 1024;
-        i += 1;
     }
-    at + i
+    at + MOST_PLACES
 }
 
 fn put_fraction(out: &mut [u8], at: usize, rest: u32) -> usize
@@ -124,7 +112,7 @@ fn put_signed(out: &mut [u8], at: usize, n: i32) -> usize
 pub fn put_g(out: &mut [u8], at: usize, count: i16, range: Range) -> usize
     ensures { (result ≡ place_after longest_g out.old at (g_text count range)) × (out.new ≡ left_in longest_g out.old at (g_text count range)) }
 {
-    if lacks_room(out.len(), at) {
+    if lacks_room(out.len(), at, LONGEST_G) {
         return at;
     }
     put_signed(out, at, in_1024ths(in_g(count, range)))

@@ -20,16 +20,13 @@ use Rattle.device.specs.declared.Device.{Device}
 use Rattle.events.specs.Event.{Event, write, read, sample, cycle, clock, happens, lent_by}
 use Rattle.entries.specs.Entries.{event_into}
 use Rattle.benchlog.specs.Answers.{found_number, begins_number, room_number}
-use Rattle.benchlog.specs.Reader.{decided, read_at, read_version}
+use Rattle.benchlog.specs.Reader.{FoundAt, decided, read_at, read_version}
 use Rattle.benchlog.specs.Whole.{look_of}
-use Rattle.benchlog.specs.declared.Begins.{Begins}
-use Rattle.benchlog.specs.declared.Begins.TheVariants as begins
+use Rattle.benchlog.specs.declared.Refusal.{Refusal}
 use Rattle.benchlog.specs.declared.Entry.{Entry}
 use Rattle.benchlog.specs.declared.Entry.TheVariants as entry
-use Rattle.benchlog.specs.declared.Found.{Found}
-use Rattle.benchlog.specs.declared.Found.TheVariants as found
 use Rattle.follow.specs.Source.{records}
-use Rattle.std.specs.Prelude.{Result, Ok, Err}
+use Rattle.std.specs.Prelude.{Some, None, Result, Ok, Err}
 use Rattle.follow.specs.Follow.{step_room, step_as, step_where, step_of, as_sought, sought_of, has_version, opened_as, opened_where, opened_of}
 use Rattle.follow.specs.declared.Halt.{Halt}
 use Rattle.follow.specs.declared.Halt.TheVariants.{Wait, Full, Stop}
@@ -52,7 +49,7 @@ use Rattle.logreader.specs.contracts.read_entry as read-entry
 use Rattle.logwriter.specs.contracts.write_version as write-version
 use Rattle.logwriter.specs.contracts.write_entry as write-entry
 use Rattle.outcomes.specs.LogNumbers.{NoRoomForVersion, NoRoomForRecord}
-use Rattle.outcomes.specs.Demand1.{◌when◌else◌, done, DueOn, DueAtStart, DueAtPlace, Tabled, Askable}
+use Rattle.outcomes.specs.Demand1.{◌when◌else◌, done, DueOn, DueAtStart, DueAtPlace, Tabled, next_place, place_behind, Askable}
 use Rattle.outcomes.specs.Promises.{Promises}
 use Rattle.outcomes.proofs.Words.{no}
 use Rattle.outcomes.proofs.LogRefusals.{encode-spelled}
@@ -148,19 +145,19 @@ clock-tabled = says (λ κs a r e p. alone a.0 (clock a.1.0) tt p refl)
 
 -- ---- the log's. A reader is lent the log to read alone
 pub read-version-tabled : Promises read-version.ended (λ M 𝓤. read-version.clauses) (λ κs a r e.
-    Tabled ℕ (DueAtStart a.0.now) (begins_number r.begins) 0 r.next)
+    Tabled ℕ (DueAtStart a.0.now) (begins_number r) 0 (next_place 0 r))
 read-version-tabled = says (λ κs a r e p. rw p (demand1.at-start a.0.now))
 
 pub read-entry-tabled : Promises read-entry.ended (λ M 𝓤. read-entry.clauses) (λ κs a r e.
-    Tabled ℕ (DueAtPlace (drop a.1.0 a.0.now)) (found_number r.found) a.1.0 r.next)
+    Tabled ℕ (DueAtPlace (drop a.1.0 a.0.now)) (found_number r) a.1.0 (place_behind a.1.0 r))
 read-entry-tabled = says (λ κs a r e p. rw p (demand1.at_place a.0.now a.1.0))
 
 pub write-version-tabled : Promises write-version.ended (λ M 𝓤. write-version.clauses) (λ κs a r e.
-    Tabled (List ℕ × ℕ) (10 when NoRoomForVersion a.0.now a.1.0 else done) (room_number r.room) (a.0.now, a.1.0) (e.0.now, r.next))
+    Tabled (List ℕ × ℕ) (10 when NoRoomForVersion a.0.now a.1.0 else done) (room_number r) (a.0.now, a.1.0) (e.0.now, next_place a.1.0 r))
 write-version-tabled = says (λ κs a r e p. rw (p.0, p.1) (demand1.version-room a.0.now a.1.0))
 
 pub write-entry-tabled : Promises write-entry.ended (λ M 𝓤. write-entry.clauses) (λ κs a r e.
-    Tabled (List ℕ × ℕ) (10 when NoRoomForRecord a.0.now a.1.0 a.1.1.0 else done) (room_number r.room) (a.0.now, a.1.0) (e.0.now, r.next))
+    Tabled (List ℕ × ℕ) (10 when NoRoomForRecord a.0.now a.1.0 a.1.1.0 else done) (room_number r) (a.0.now, a.1.0) (e.0.now, next_place a.1.0 r))
 write-entry-tabled = says (λ κs a r e p. rw (p.0, p.1, encode-spelled a.1.1.0) (demand1.record-room a.0.now a.1.0 a.1.1.0))
 
 -- ---- who follows a log: where it says that the log is at its end, the refusal is the number that is due there, 0 where nothing is refused
@@ -176,29 +173,27 @@ module _ (log : List ℕ) (at room : ℕ) (last : Bool) where
 
   sought-due : where_stopped (DueAtPlace here) (sought_of log at room last)
   unfolding step_of
-  sought-due = go (ltb room step_room) (either last (decided here)) (read_at here 0).found (((demand1.at_place here 0).exactly _).0 refl)
+  sought-due = go (ltb room step_room) (either last (decided here)) (read_at here 0) (((demand1.at_place here 0).exactly _).0 refl)
     where
-      go : (t u : Bool) (f : Found) → DueAtPlace here (found_number f)
-          → where_stopped (DueAtPlace here) (as_sought (step_where (pick t (Err Full) (pick u (Ok tt) (Err Wait))) (step_as (look_of f (read_at here 0).next) at)))
+      go : (t u : Bool) (f : FoundAt) → DueAtPlace here (found_number f)
+          → where_stopped (DueAtPlace here) (as_sought (step_where (pick t (Err Full) (pick u (Ok tt) (Err Wait))) (step_as (look_of f) at)))
       go true u f due = tt
-      go false true (found.Record e) due = tt
-      go false true found.End due = due
-      go false true found.WrongRecord due = due
-      go false true found.Cut due = due
+      go false true (Ok (Some read)) due = tt
+      go false true (Ok None) due = due
+      go false true (Err refusal) due = due
       go false false f due = tt
 
 module _ (begun : Bool) (log : List ℕ) (room : ℕ) (last : Bool) where
   opened-due : where_stopped (DueAtStart log) (opened_of records begun log room last)
   unfolding opened_of
-  opened-due = go begun (ltb room step_room) (either last (has_version (length log))) (read_version log).begins (((demand1.at-start log).exactly _).0 refl)
+  opened-due = go begun (ltb room step_room) (either last (has_version (length log))) (read_version log) (((demand1.at-start log).exactly _).0 refl)
     where
-      go : (s t u : Bool) (b : Begins) → DueAtStart log (begins_number b)
-          → where_stopped (DueAtStart log) (pick s (Ok 0) (opened_where (pick t (Err Full) (pick u (Ok tt) (Err Wait))) (opened_as b (read_version log).next)))
+      go : (s t u : Bool) (b : Result ℕ Refusal) → DueAtStart log (begins_number b)
+          → where_stopped (DueAtStart log) (pick s (Ok 0) (opened_where (pick t (Err Full) (pick u (Ok tt) (Err Wait))) (opened_as b)))
       go true t u b due = tt
       go false true u b due = tt
-      go false false true begins.Version due = tt
-      go false false true begins.WrongVersion due = due
-      go false false true begins.Empty due = due
+      go false false true (Ok next) due = tt
+      go false false true (Err refusal) due = due
       go false false false b due = tt
 
 pub open-log-stops : Promises open-log.ended (λ M 𝓤. open-log.clauses) (λ κs a r e. where_stopped (DueAtStart a.1.0.now) r)

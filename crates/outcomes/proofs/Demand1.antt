@@ -1,7 +1,7 @@
 -- Demand 1 whole, of the numbers' own theorems: in the order of the tests the number given is that of the first that holds.
 -- Assumes nothing.
 use Prim.Native.Nat.{ℕ, ◌+◌, ◌*◌}
-use mathlib.Core.Bool.{Bool, true, false}
+use mathlib.Core.Bool.{Bool, true, false, not}
 use mathlib.Core.List.{List, [], ◌∷◌, ◌++◌}
 use mathlib.Core.Logic.{◌↔◌, ◌⊎◌, ◌≢◌, inl, inr, ⊎_elim}
 use mathlib.Core.Path.{◌≡◌, refl, sym, ap, subst, ◌∙◌}
@@ -9,8 +9,8 @@ use native.Mathlib.Omega.{arith}
 use borrow.Author.Tests.{eqb-true, eq-eqb}
 use lib.Dec.{eqb}
 use lib.ListN.{length, get_or, take, drop}
-use Rattle.laws.specs.Choice.{both}
-use Rattle.laws.specs.Refusals.{first}
+use Rattle.std.specs.Prelude.{Some, None, Result, Ok, Err}
+use Rattle.laws.specs.Choice.{pick, both}
 use Rattle.registers.proofs.Answers.{zero-accepted}
 use Rattle.device.specs.Device.{reg}
 use Rattle.device.specs.declared.Device.{Device}
@@ -18,25 +18,23 @@ use Rattle.events.specs.Event.{Event, power_up, write, read, sample, cycle, cloc
 use Rattle.events.specs.Run.{next}
 use Rattle.events.specs.Views.{at_read}
 use Rattle.events.proofs.Given.{read-gives}
-use Rattle.benchlog.specs.Answers.{found_number, begins_number, room_number}
-use Rattle.benchlog.specs.Reader.{next_of, version_read_as, version_rows, read_at, read_head, found_in, read_version}
+use Rattle.benchlog.specs.Answers.{refusal_number, found_number, begins_number, room_number}
+use Rattle.benchlog.specs.Format.{version, version_field}
+use Rattle.benchlog.specs.Reader.{FoundAt, read_at, read_version}
 use Rattle.benchlog.specs.Walk.{item, none, walk, behind_version, walk_log}
 use Rattle.benchlog.specs.Whole.{look_record, read_log}
-use Rattle.benchlog.specs.Writer.{room_for, written_as, written, placed, placed_as, out_after}
-use Rattle.benchlog.specs.declared.Begins.{Begins}
-use Rattle.benchlog.specs.declared.Begins.TheVariants as begins
+use Rattle.benchlog.specs.Writer.{no_room, lacks_room, room_for, written, placed, placed_as, out_after}
 use Rattle.benchlog.specs.declared.Entry.{Entry}
-use Rattle.benchlog.specs.declared.Found.{Found}
-use Rattle.benchlog.specs.declared.Found.TheVariants as found
-use Rattle.benchlog.specs.declared.Read.{Read}
-use Rattle.benchlog.specs.declared.Room.{Room}
-use Rattle.benchlog.specs.declared.Room.TheVariants as room
-use Rattle.benchlog.proofs.Heads.{found-stands, stands-whole}
+use Rattle.benchlog.specs.declared.NoRoom.{NoRoom}
+use Rattle.benchlog.specs.declared.Refusal.{Refusal}
+use Rattle.benchlog.specs.declared.Refusal.TheVariants.{WrongVersion, Cut}
+use Rattle.benchlog.proofs.Heads.{found-stands, found-whole}
+use Rattle.benchlog.proofs.Logs.{not-done}
 use Rattle.benchlog.proofs.Walks.{walked, look-record, none-cases, records-within}
 use Rattle.paper.specs.Refused.{is_reserved_write, is_detector_write, is_power_mode_write, is_test_or_trim_write}
 use Rattle.paper.specs.Samples.{all_inside}
 use Rattle.outcomes.specs.LogNumbers.{EmptyLog, NotVersionOne, KindOfLength, WrongRecordLength, BodyCut, RightKind, CutAt, WrongAt, RightAt, spelled}
-use Rattle.outcomes.specs.Demand1.{◌when◌else◌, done, Due, DueOn, DueAtStart, record_length, DueAtPlace, DueOfLog, Tabled, Askable, Demand1}
+use Rattle.outcomes.specs.Demand1.{◌when◌else◌, done, Due, DueOn, DueAtStart, record_length, DueAtPlace, DueOfLog, Tabled, next_place, place_behind, Askable, Demand1}
 use Rattle.outcomes.specs.Demand1.{DueFrom, at-end, at-refusal, behind-record}
 use Rattle.outcomes.proofs.Words.{Means, no, less, equal, and, or, is_false}
 use Rattle.outcomes.proofs.Refusals as refusals
@@ -137,28 +135,31 @@ given {k} {n} w = tested (λ e. w.0 (eqb-true n k e), λ p. eq-eqb n k (w.1 p)) 
 start-one : (log : List ℕ) → One (DueAtStart log)
 start-one log = test-one (test-one done-one)
 
-start-due : (log : List ℕ) → DueAtStart log (begins_number (read_version log).begins)
-start-due log = given nine (λ some. given seven (λ one. rest (read_version log).begins (λ e. some (nine.0 e)) (λ e. one (seven.0 e))))
+-- by the two tests of it
+abbrev begun_by : Bool → Bool → Result ℕ Refusal
+begun_by empty other = pick empty (Err Cut) (pick other (Err WrongVersion) (Ok version_field))
+
+start-due : (log : List ℕ) → DueAtStart log (begins_number (read_version log))
+unfolding read_version
+start-due log = given nine (λ some. given seven (λ one. rest (eqb (length log) 0) (not (eqb (get_or log 0 0) version)) (λ e. some (nine.0 e)) (λ e. one (seven.0 e))))
   where
-    nine : (begins_number (read_version log).begins ≡ 9) ↔ EmptyLog log
+    nine : (begins_number (read_version log) ≡ 9) ↔ EmptyLog log
     nine = logs.log-9 log
 
-    seven : (begins_number (read_version log).begins ≡ 7) ↔ NotVersionOne log
+    seven : (begins_number (read_version log) ≡ 7) ↔ NotVersionOne log
     seven = logs.log-7 log
 
-    rest : (b : Begins) → begins_number b ≢ 9 → begins_number b ≢ 7 → begins_number b ≡ 0
-    rest begins.Version h k = refl
-    rest begins.WrongVersion h k = absurd (k refl)
-    rest begins.Empty h k = absurd (h refl)
+    rest : (empty other : Bool) → begins_number (begun_by empty other) ≢ 9 → begins_number (begun_by empty other) ≢ 7 → begins_number (begun_by empty other) ≡ 0
+    rest true other h k = absurd (h refl)
+    rest false true h k = absurd (k refl)
+    rest false false h k = refl
 
-start-stays : (log : List ℕ) → begins_number (read_version log).begins ≢ 0 → (read_version log).next ≡ 0
-unfolding read_version
-start-stays log = go (first begins.Version (version_rows log))
+start-stays : (log : List ℕ) → begins_number (read_version log) ≢ 0 → next_place 0 (read_version log) ≡ 0
+start-stays log = go (read_version log)
   where
-    go : (b : Begins) → begins_number (version_read_as b).begins ≢ 0 → (version_read_as b).next ≡ 0
-    go begins.Version h = absurd (h refl)
-    go begins.WrongVersion h = refl
-    go begins.Empty h = refl
+    go : (b : Result ℕ Refusal) → begins_number b ≢ 0 → next_place 0 b ≡ 0
+    go (Ok next) h = absurd (h refl)
+    go (Err refusal) h = refl
 
 -- what stands at a place
 place-one : (s : List ℕ) → One (DueAtPlace s)
@@ -192,18 +193,16 @@ place-due (high ∷ low ∷ behind) m right wrong cut =
     by_kind (inr k) fit whole = inl (wrong.1 (inr (whole, k)), k)
 
 module _ (log : List ℕ) (place : ℕ) where
-  found-due : DueAtPlace (drop place log) (found_number (read_at log place).found)
-  found-due = place-due (drop place log) (found_number (read_at log place).found) (logs.record-0 log place) (logs.record-8 log place) (logs.record-9 log place)
+  found-due : DueAtPlace (drop place log) (found_number (read_at log place))
+  found-due = place-due (drop place log) (found_number (read_at log place)) (logs.record-0 log place) (logs.record-8 log place) (logs.record-9 log place)
 
-  place-stays : found_number (read_at log place).found ≢ 0 → (read_at log place).next ≡ place
-  unfolding read_head
-  place-stays = go (found_in (drop place log))
+  place-stays : found_number (read_at log place) ≢ 0 → place_behind place (read_at log place) ≡ place
+  place-stays = go (read_at log place)
     where
-      go : (f : Found) → found_number f ≢ 0 → next_of f place (drop place log) ≡ place
-      go (found.Record e) h = absurd (h refl)
-      go found.End h = refl
-      go found.WrongRecord h = refl
-      go found.Cut h = refl
+      go : (f : FoundAt) → found_number f ≢ 0 → place_behind place f ≡ place
+      go (Ok (Some read)) h = absurd (h refl)
+      go (Ok None) h = refl
+      go (Err refusal) h = refl
 
 -- all that stands from a place on
 from_one : (s : List ℕ) → One (DueFrom s)
@@ -218,25 +217,23 @@ from_one s n m (behind-record some p rest) (at-refusal k q) = absurd (k (place-o
 from_one s n m (behind-record some p rest) (behind-record also q others) = from_one (drop (2 + record_length s) s) n m rest others
 
 -- what is found there, or that nothing is
-due-as : (bytes : List ℕ) {f : Found} → (read_at bytes 0).found ≡ f → DueAtPlace bytes (found_number f)
-due-as bytes q = subst (λ (f : Found). DueAtPlace bytes (found_number f)) q (found-due bytes 0)
+due-as : (bytes : List ℕ) {f : FoundAt} → read_at bytes 0 ≡ f → DueAtPlace bytes (found_number f)
+due-as bytes q = subst (λ (f : FoundAt). DueAtPlace bytes (found_number f)) q (found-due bytes 0)
 
 none-due : (bytes : List ℕ) (number : ℕ) → look_record bytes ≡ none number → DueFrom bytes number
 none-due bytes number q =
     none-cases (DueFrom bytes) bytes number q
     (λ end. at-end ((logs.end-when bytes 0).0 end) refl)
-    (λ wrong. at-refusal (λ e. omega arith) (due-as bytes wrong))
-    (λ cut. at-refusal (λ e. omega arith) (due-as bytes cut))
+    (λ refusal is. at-refusal (not-done refusal) (due-as bytes is))
 
 record-due : (bytes : List ℕ) (e : Entry) (n : ℕ) → look_record bytes ≡ item e n → {stop : ℕ} → DueFrom (drop n bytes) stop → DueFrom bytes stop
 record-due bytes e n q {stop} behind =
     let r = look-record bytes e n q in
-    let stands = found-stands 0 bytes e r.0 in
-    let long = stands.long in
-    let next : (read_at bytes 0).next ≡ 0 + (2 + record_length bytes) = ap (λ (a : Read). a.next) (stands-whole 0 bytes stands) in
-    let same : n ≡ 2 + record_length bytes = omega (arith, r.1, next) in
+    let long = (found-stands 0 bytes e n r).long in
+    let next : 0 + (2 + record_length bytes) ≡ n = (found-whole 0 bytes e n r).1 in
+    let same : n ≡ 2 + record_length bytes = omega (arith, next) in
     let some : bytes ≢ [] = λ none_left. let z = ap length none_left in omega arith in
-    behind-record some (due-as bytes r.0) (subst (λ (k : ℕ). DueFrom (drop k bytes) stop) same behind)
+    behind-record some (due-as bytes r) (subst (λ (k : ℕ). DueFrom (drop k bytes) stop) same behind)
 
 from-due : (bytes : List ℕ) → DueFrom bytes (walk look_record bytes).stop
 from-due = walked look_record records-within (λ bytes w. DueFrom bytes w.stop) none-due (λ bytes e n q behind. record-due bytes e n q behind)
@@ -247,36 +244,38 @@ log-one log = test-one (test-one (from_one (drop 1 log)))
 
 log-due : (log : List ℕ) → DueOfLog log (read_log log).stop
 unfolding walk_log read_version
-log-due log = go (first begins.Version (version_rows log)) (logs.log-9 log) (logs.log-7 log)
+log-due log = go (eqb (length log) 0) (not (eqb (get_or log 0 0) version)) (logs.log-9 log) (logs.log-7 log)
   where
-    go : (b : Begins) → (begins_number (version_read_as b).begins ≡ 9) ↔ EmptyLog log → (begins_number (version_read_as b).begins ≡ 7) ↔ NotVersionOne log
-        → DueOfLog log (behind_version (version_read_as b).begins (walk look_record (drop (version_read_as b).next log))).stop
-    go begins.Version nine seven = inr (λ p. let z = nine.1 p in omega arith, inr (λ p. let z = seven.1 p in omega arith, from-due (drop 1 log)))
-    go begins.WrongVersion nine seven = inr (λ p. let z = nine.1 p in omega arith, inl (refl, seven.0 refl))
-    go begins.Empty nine seven = inl (refl, nine.0 refl)
+    go : (empty other : Bool) → (begins_number (begun_by empty other) ≡ 9) ↔ EmptyLog log → (begins_number (begun_by empty other) ≡ 7) ↔ NotVersionOne log
+        → DueOfLog log (behind_version (begun_by empty other) (λ next. walk look_record (drop next log))).stop
+    go true other nine seven = inl (refl, nine.0 refl)
+    go false true nine seven = inr (λ p. let z = nine.1 p in omega arith, inl (refl, seven.0 refl))
+    go false false nine seven = inr (λ p. let z = nine.1 p in omega arith, inr (λ p. let z = seven.1 p in omega arith, from-due (drop 1 log)))
 
 -- ---- the writer
-room_0 : (r : Room) → room_number r ≢ 10 → room_number r ≡ 0
-room_0 room.Done h = refl
-room_0 room.NoRoom h = absurd (h refl)
+room_0 : (r : Result ℕ NoRoom) → room_number r ≢ 10 → room_number r ≡ 0
+room_0 (Ok next) h = refl
+room_0 (Err refusal) h = absurd (h refl)
 
 -- of any bytes, where 10 is given exactly when there is no room for them
-room-tabled : (out : List ℕ) (place : ℕ) (bs : List ℕ) {NoRoom : Type 0} → (room_number (written out place bs).room ≡ 10) ↔ NoRoom
-    → Tabled (List ℕ × ℕ) (10 when NoRoom else done) (room_number (written out place bs).room) (out, place) (out_after out place bs, (written out place bs).next)
+room-tabled : (out : List ℕ) (place : ℕ) (bs : List ℕ) {Lacks : Type 0} → (room_number (written out place bs) ≡ 10) ↔ Lacks
+    → let w = written out place bs in
+    Tabled (List ℕ × ℕ) (10 when Lacks else done) (room_number w) (out, place) (out_after out place bs, next_place place w)
 room-tabled out place bs ten = record {
-  exactly = exactly (test-one done-one) (given ten (λ h. room_0 (written out place bs).room (λ e. h (ten.0 e))));
+  exactly = exactly (test-one done-one) (given ten (λ h. room_0 (written out place bs) (λ e. h (ten.0 e))));
   unchanged = λ r. let same = refusals.log-unchanged out place bs r in λ i. (same.0 i, same.1 i);
 }
 
-put-there : (out : List ℕ) (place : ℕ) (bs : List ℕ) → room_number (written out place bs).room ≡ 0
-    → (out_after out place bs ≡ take place out ++ bs ++ drop (place + length bs) out) × ((written out place bs).next ≡ place + length bs)
-unfolding placed
-put-there out place bs = go (room_for (length out) place (length bs))
+put-there : (out : List ℕ) (place : ℕ) (bs : List ℕ) → room_number (written out place bs) ≡ 0
+    → (out_after out place bs ≡ take place out ++ bs ++ drop (place + length bs) out) × (written out place bs ≡ Ok (place + length bs))
+unfolding placed room_for
+put-there out place bs = go (lacks_room (length out) place (length bs))
   where
-    go : (r : Room) → room_number (written_as r place (length bs)).room ≡ 0
-        → (placed_as r out place bs ≡ take place out ++ bs ++ drop (place + length bs) out) × ((written_as r place (length bs)).next ≡ place + length bs)
-    go room.Done e = (refl, refl)
-    go room.NoRoom e = absurd (omega arith)
+    go : (t : Bool) →
+        let w = pick t (Err no_room) (Ok (place + length bs)) in
+        room_number w ≡ 0 → (placed_as w out place bs ≡ take place out ++ bs ++ drop (place + length bs) out) × (w ≡ Ok (place + length bs))
+    go true e = absurd (omega arith)
+    go false e = (refl, refl)
 
 -- ---- the demand
 pub demand1 : Demand1

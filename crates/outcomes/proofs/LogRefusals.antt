@@ -14,13 +14,12 @@ use Rattle.laws.specs.Choice.{both, either}
 use Rattle.laws.specs.Refusals.{due, due_among}
 use Rattle.benchlog.specs.Answers.{found_number, begins_number, room_number}
 use Rattle.benchlog.specs.Format.{length_of_kind, encode, version_bytes}
-use Rattle.benchlog.specs.Reader.{unfit, wrong_length, entry_rows, version_rows, read_at, read_version}
+use Rattle.std.specs.Prelude.{None, Ok}
+use Rattle.benchlog.specs.Reader.{whole, unfit, wrong_length, entry_rows, version_rows, read_at, read_version}
 use Rattle.benchlog.specs.Writer.{written}
 use Rattle.benchlog.specs.Whole.{Bytes, FieldsFit}
 use Rattle.benchlog.specs.declared.Entry.{Entry}
 use Rattle.benchlog.specs.declared.Entry.TheVariants as entry
-use Rattle.benchlog.specs.declared.Read.{Read}
-use Rattle.benchlog.specs.declared.Found.TheVariants.{Record, End}
 use Rattle.benchlog.proofs.Heads.{found-end, head-end}
 use Rattle.benchlog.proofs.Trips.{written_read, read-written-at, read-proper-at}
 use Rattle.benchlog.proofs.Exactly.{read-exactly, version-exactly, write-exactly}
@@ -37,10 +36,10 @@ version-means [] = never
 version-means (v ∷ log) = passed (ne_eqb (suc (length log)) 0 (λ e. omega arith)) (isnt (equal v 1))
 
 module _ (log : List ℕ) where
-  pub log-7 : (begins_number (read_version log).begins ≡ 7) ↔ NotVersionOne log
+  pub log-7 : (begins_number (read_version log) ≡ 7) ↔ NotVersionOne log
   log-7 = when (version-exactly log 7) (version-means log)
 
-  pub log-9 : (begins_number (read_version log).begins ≡ 9) ↔ EmptyLog log
+  pub log-9 : (begins_number (read_version log) ≡ 9) ↔ EmptyLog log
   log-9 = when (version-exactly log 9) (empty-means log)
 
 -- ---- 8 and 9: what stands at a place. Of a record n is the length
@@ -132,13 +131,13 @@ right-means (high ∷ low ∷ behind) =
     (and (isnt (length-means n)) (λ right. and (isnt (cut-means n behind)) (λ _. last (twice (kind-means n right behind))))))
 
 module _ (log : List ℕ) (place : ℕ) where
-  pub record-0 : (found_number (read_at log place).found ≡ 0) ↔ RightAt (drop place log)
+  pub record-0 : (found_number (read_at log place) ≡ 0) ↔ RightAt (drop place log)
   record-0 = when (read-exactly log place 0) (right-means (drop place log))
 
-  pub record-8 : (found_number (read_at log place).found ≡ 8) ↔ WrongAt (drop place log)
+  pub record-8 : (found_number (read_at log place) ≡ 8) ↔ WrongAt (drop place log)
   record-8 = when (read-exactly log place 8) (wrong-means (drop place log))
 
-  pub record-9 : (found_number (read_at log place).found ≡ 9) ↔ CutAt (drop place log)
+  pub record-9 : (found_number (read_at log place) ≡ 9) ↔ CutAt (drop place log)
   record-9 = when (read-exactly log place 9) (cut-at-means (drop place log))
 
 -- ---- a record, byte by byte
@@ -157,27 +156,27 @@ encode-spelled (entry.Clock k) =
 
 module _ (log : List ℕ) (place : ℕ) where
   -- "An end at a record boundary is the end"
-  pub end-when : ((read_at log place).found ≡ End) ↔ (drop place log ≡ [])
-  end-when = (found-end place (drop place log), λ e. rw e (ap (λ (r : Read). r.found) (head-end place)))
+  pub end-when : (read_at log place ≡ Ok None) ↔ (drop place log ≡ [])
+  end-when = (found-end place (drop place log), λ e. rw e (head-end place))
 
   -- a record is found exactly where its bytes stand
-  pub record-when : Bytes log → (e : Entry) → ((read_at log place).found ≡ Record e) ↔ (FieldsFit e × BeginsWith (spelled e) (drop place log))
+  pub record-when : Bytes log → (e : Entry) → ((next : ℕ) × (read_at log place ≡ whole e next)) ↔ (FieldsFit e × BeginsWith (spelled e) (drop place log))
   record-when h e = (there, found)
     where
-      there : (read_at log place).found ≡ Record e → FieldsFit e × BeginsWith (spelled e) (drop place log)
+      there : (next : ℕ) × (read_at log place ≡ whole e next) → FieldsFit e × BeginsWith (spelled e) (drop place log)
       there f =
-          let n = (read_at log place).next - place in
+          let n = f.0 - place in
           let s = drop place log in
-          let front : spelled e ≡ take n s = sym (encode-spelled e) ∙ read-written-at log place h e f in
-          (read-proper-at log place h e f, record { rest = drop n s; is = sym (ap (λ (l : List ℕ). l ++ drop n s) front ∙ take-append-drop n s) })
+          let front : spelled e ≡ take n s = sym (encode-spelled e) ∙ read-written-at log place h e f.0 f.1 in
+          (read-proper-at log place h e f.0 f.1, record { rest = drop n s; is = sym (ap (λ (l : List ℕ). l ++ drop n s) front ∙ take-append-drop n s) })
 
-      found : FieldsFit e × BeginsWith (spelled e) (drop place log) → (read_at log place).found ≡ Record e
-      found p = rw (p.1.is, ← encode-spelled e) (ap (λ (r : Read). r.found) (written_read e place p.1.rest p.0))
+      found : FieldsFit e × BeginsWith (spelled e) (drop place log) → (next : ℕ) × (read_at log place ≡ whole e next)
+      found p = (place + length (encode e), rw (p.1.is, ← encode-spelled e) (written_read e place p.1.rest p.0))
 
 -- ---- 10
 module _ (out : List ℕ) (place : ℕ) where
-  pub version-10 : (room_number (written out place version_bytes).room ≡ 10) ↔ NoRoomForVersion out place
+  pub version-10 : (room_number (written out place version_bytes) ≡ 10) ↔ NoRoomForVersion out place
   version-10 = when (write-exactly out place version_bytes 10) (less (length out) (place + 1))
 
-  pub record-10 : (e : Entry) → (room_number (written out place (encode e)).room ≡ 10) ↔ NoRoomForRecord out place e
+  pub record-10 : (e : Entry) → (room_number (written out place (encode e)) ≡ 10) ↔ NoRoomForRecord out place e
   record-10 e = rw (encode-spelled e) (when (write-exactly out place (spelled e) 10) (less (length out) (place + length (spelled e))))

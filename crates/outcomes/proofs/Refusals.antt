@@ -21,8 +21,8 @@ use Rattle.codes.specs.Mode.{mode_of}
 use Rattle.codes.specs.Range.{range_of}
 use Rattle.channels.specs.Codes.{in_range}
 use Rattle.table.specs.Rows.{row_at, the_table}
-use Rattle.std.specs.Prelude.{Err}
-use Rattle.registers.specs.Answers.{Answer, done, number, accepted}
+use Rattle.std.specs.Prelude.{Result, Ok, Err}
+use Rattle.registers.specs.Answers.{Answer, done, refusal_number, number, accepted}
 use Rattle.registers.specs.Deeds.{judgement}
 use Rattle.registers.specs.Refused.{reserved_code, not_modelled, lack_at, write_rows, read_rows, answer_at, write_answer, read_answer}
 use Rattle.registers.specs.declared.Refusal.TheVariants.{NoAddress, ReservedCode}
@@ -38,15 +38,15 @@ use Rattle.events.specs.Run.{next}
 use Rattle.device.proofs.Laws.{write-refused, read-refused, sample-refused}
 use Rattle.benchlog.specs.Answers.{found_number, begins_number, room_number}
 use Rattle.benchlog.specs.Reader.{found_in, read_head, read_at, read_version}
-use Rattle.benchlog.specs.Writer.{room_for, written_as, written, placed_as, out_after}
-use Rattle.benchlog.specs.declared.Room.{Room}
-use Rattle.benchlog.specs.declared.Room.TheVariants as room
+use Rattle.benchlog.specs.Writer.{room_for, written, placed_as, out_after}
+use Rattle.benchlog.specs.declared.NoRoom.{NoRoom}
 use Rattle.benchlog.proofs.Exactly.{read-answers, version-answers, write-answers}
 use Rattle.paper.specs.Refused.{is_reserved_write, is_detector_write, is_power_mode_write, is_test_or_trim_write}
 use Rattle.paper.specs.Samples.{all_inside}
 use Rattle.paper.proofs.Refused.{reserved-is, some_number, detector-is, power-mode-is, test-or-trim-is}
 use Rattle.outcomes.specs.Numbers.{AboveLast, ReservedWrite, DetectorWrite, PowerModeWrite, TestOrTrimWrite, LackingWrite, SomeOutside, WrongReadLength, PassesEnd}
 use Rattle.outcomes.specs.Numbers.{answers_to, NothingElse}
+use Rattle.outcomes.specs.Demand1.{next_place}
 use Rattle.outcomes.proofs.Words.{Means, no, when, same_test, isnt, likewise, last, less, equal, and, or, last_row, is_false, some-outside}
 
 -- ---- exactly when the rows say
@@ -190,13 +190,13 @@ pub sample-unchanged : (d : Device) (x y z : ℤ) (t : ℕ) → number (sample_o
 unfolding sample_of
 sample-unchanged d x y z t h = sample-refused d x y z t (not-accepted (sample_answer x y z) h)
 
-pub log-unchanged : (out : List ℕ) (place : ℕ) (bs : List ℕ) → room_number (written out place bs).room ≢ 0
-    → (out_after out place bs ≡ out) × ((written out place bs).next ≡ place)
+pub log-unchanged : (out : List ℕ) (place : ℕ) (bs : List ℕ) → room_number (written out place bs) ≢ 0
+    → (out_after out place bs ≡ out) × (next_place place (written out place bs) ≡ place)
 log-unchanged out place bs = go (room_for (length out) place (length bs))
   where
-    go : (r : Room) → room_number (written_as r place (length bs)).room ≢ 0 → (placed_as r out place bs ≡ out) × ((written_as r place (length bs)).next ≡ place)
-    go room.Done h = absurd (h refl)
-    go room.NoRoom h = (refl, refl)
+    go : (r : Result ℕ NoRoom) → room_number r ≢ 0 → (placed_as r out place bs ≡ out) × (next_place place r ≡ place)
+    go (Ok next) h = absurd (h refl)
+    go (Err refusal) h = (refl, refl)
 
 -- of any event: neither the device changes nor are bytes given
 pub event-unchanged : (d : Device) (e : Event) → (gives d e).number ≢ 0 → (next d e ≡ d) × ((gives d e).bytes ≡ [])
@@ -248,8 +248,8 @@ pub each-given : (d : Device)
     → number (write_of d 0x0F 0x05).answer ∷ number (write_of d 0x40 0x00).answer ∷ number (write_of d 0x0F 0x04).answer ∷
     number (sample_of d (pos 2048) (pos 0) (pos 0) 0).answer ∷
     number (read_of d 0x3F 193).answer ∷ number (read_of d 0x3E 2).answer ∷
-    begins_number (read_version (2 ∷ [])).begins ∷ found_number (read_at (0 ∷ 9 ∷ []) 0).found ∷ begins_number (read_version []).begins ∷
-    room_number (written [] 0 (1 ∷ [])).room ∷
+    begins_number (read_version (2 ∷ [])) ∷ found_number (read_at (0 ∷ 9 ∷ []) 0) ∷ begins_number (read_version []) ∷
+    room_number (written [] 0 (1 ∷ [])) ∷
     number (write_of d 0x16 0x80).answer ∷ number (write_of d 0x11 0x20).answer ∷ number (write_of d 0x36 0x80).answer ∷ []
     ≡ 0 ∷ 1 ∷ 2 ∷ 4 ∷ 5 ∷ 6 ∷ 7 ∷ 8 ∷ 9 ∷ 10 ∷ 11 ∷ 12 ∷ 13 ∷ []
 unfolding write_of judgement answer_at reserved_code range_of mode_of bit not_modelled lack_at the_table read_of read_answer sample_of sample_answer read_version read_head found_in room_for

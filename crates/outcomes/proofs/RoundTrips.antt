@@ -8,24 +8,24 @@ use native.Mathlib.Omega.{arith}
 use borrow.Author.Tests.{le-ltb}
 use lib.ListN.{length, take, drop, length-append, take-append-drop}
 use lib.Seq.{length-take-le, take_at, take-append_seam, drop_at, drop-drop, drop-length}
+use Rattle.std.specs.Prelude.{Ok}
 use Rattle.benchlog.specs.Format.{version_bytes}
 use Rattle.benchlog.specs.Reader.{whole, read_at}
 use Rattle.benchlog.specs.Writer.{room_for, placed, written, out_after}
 use Rattle.benchlog.specs.Whole.{Bytes, FieldsFit, AllFieldsFit}
 use Rattle.benchlog.specs.declared.Entry.{Entry}
-use Rattle.benchlog.specs.declared.Room.TheVariants.{Done}
-use Rattle.benchlog.specs.declared.Found.TheVariants.{Record}
 use Rattle.benchlog.proofs.Places.{length-placed, twice}
-use Rattle.benchlog.proofs.Heads.{head-end, found-end, next-behind}
+use Rattle.benchlog.proofs.Heads.{head-end, found-end, next-behind, same-whole}
 use Rattle.benchlog.proofs.Trips.{written_read, read-written-at, read-proper-at, written-read-at}
 use Rattle.benchlog.proofs.Logs.{version-read, version-found}
 use Rattle.outcomes.specs.LogNumbers.{spelled}
+use Rattle.outcomes.specs.Demand1.{next_place}
 use Rattle.outcomes.specs.RoundTrips.{WritesJust, WrittenThenRead, ReadThenWritten, all_spelled, log_spelled, FindsAll, LogReadsAs, left_by_all, left_by_log, RoundTrips}
 use Rattle.outcomes.proofs.LogRefusals.{encode-spelled}
 
 -- ---- bytes for which there is room
 module _ (bytes out : List ℕ) (place : ℕ) (room : place + length bytes ≤ length out) where
-  has_room : room_for (length out) place (length bytes) ≡ Done
+  has_room : room_for (length out) place (length bytes) ≡ Ok (place + length bytes)
   unfolding room_for
   has_room = rw (le-ltb (length out) (place + length bytes) room)
 
@@ -35,7 +35,7 @@ module _ (bytes out : List ℕ) (place : ℕ) (room : place + length bytes ≤ l
   leaves : out_after out place bytes ≡ placed out place bytes
   leaves = rw has_room
 
-  goes_to : (written out place bytes).next ≡ place + length bytes
+  goes_to : next_place place (written out place bytes) ≡ place + length bytes
   goes_to = rw has_room
 
   writes-just : WritesJust bytes out place (written out place bytes) (out_after out place bytes)
@@ -46,7 +46,6 @@ module _ (bytes out : List ℕ) (place : ℕ) (room : place + length bytes ≤ l
       let upto : length (before ++ bytes) ≡ place + length bytes = length-append before bytes ∙ rw front in
       rw has_room (record {
         done = refl;
-        next = refl;
         here = rw (append_assoc before bytes behind, drop_at before (bytes ++ behind) place front) (take-append_seam bytes behind);
         before = rw (append_assoc before bytes behind) (take_at before (bytes ++ behind) place front);
         behind = drop_at (before ++ bytes) behind (place + length bytes) upto;
@@ -56,29 +55,29 @@ module _ (bytes out : List ℕ) (place : ℕ) (room : place + length bytes ≤ l
 once-written : (e : Entry) → FieldsFit e → (out : List ℕ) (place : ℕ) → place + length (spelled e) ≤ length out → WrittenThenRead e out place
 once-written e p out place room = record {
   writes = rw (encode-spelled e) (writes-just (spelled e) out place room);
-  reads = written-read-at out place e p (rw (encode-spelled e) (writes-just (spelled e) out place room).done);
+  reads = written-read-at out place e p;
 }
 
-module _ (log : List ℕ) (bytes : Bytes log) (place : ℕ) (e : Entry) (found : (read_at log place).found ≡ Record e) where
+module _ (log : List ℕ) (bytes : Bytes log) (place : ℕ) (e : Entry) (next : ℕ) (found : read_at log place ≡ whole e next) where
   abbrev s : List ℕ
   s = drop place log
 
   abbrev span : ℕ
-  span = (read_at log place).next - place
+  span = next - place
 
   spans : spelled e ≡ take span s
-  spans = sym (encode-spelled e) ∙ read-written-at log place bytes e found
+  spans = sym (encode-spelled e) ∙ read-written-at log place bytes e next found
 
   spans-length : length (spelled e) ≡ span
-  spans-length = ap length spans ∙ length-take-le span s (let b = next-behind place s e found in omega (arith, b.0, b.1))
+  spans-length = ap length spans ∙ length-take-le span s (let b = next-behind place s e next found in omega (arith, b.0, b.1))
 
   once-here : take (length (spelled e)) s ≡ spelled e
   once-here = rw spans-length (sym spans)
 
   once-read : ReadThenWritten log place e
   once-read = record {
-    fits = read-proper-at log place bytes e found;
-    next = rw spans-length (let b = (next-behind place s e found).0 in omega (arith, b));
+    fits = read-proper-at log place bytes e next found;
+    next = found ∙ ap (whole e) (let b = (next-behind place s e next found).0 in omega (arith, b, spans-length));
     here = once-here;
     writes = λ out at room. rw (once-here, encode-spelled e) (writes-just (spelled e) out at room);
   }
@@ -92,22 +91,24 @@ finds-all : (es : List Entry) → AllFieldsFit es → (before : List ℕ) → Fi
 finds-all [] p before = rw (append-nil before, drop-length before, head-end (length before))
 finds-all (e ∷ es) p before =
     let on = finds-all es p.1 (before ++ spelled e) in
-    rw (finds-next before (all_spelled es) e p.0)
-    (refl, rw (append_assoc before (spelled e) (all_spelled es), length-append before (spelled e)) at on)
+    (
+      length before + length (spelled e),
+      (finds-next before (all_spelled es) e p.0, rw (append_assoc before (spelled e) (all_spelled es), length-append before (spelled e)) at on),
+    )
 
 all_found : (log : List ℕ) → Bytes log → (es : List Entry) (place : ℕ) → FindsAll log place es → (drop place log ≡ all_spelled es) × AllFieldsFit es
 all_found log bytes [] place f = (found-end place (drop place log) f, tt)
 all_found log bytes (e ∷ es) place f =
-    let one = once-read log bytes place e f.0 in
-    let rest = all_found log bytes es (read_at log place).next f.1 in
+    let one = once-read log bytes place e f.0 f.1.0 in
+    let rest = all_found log bytes es f.0 f.1.1 in
     let n = length (spelled e) in
-    let behind : drop n (drop place log) ≡ all_spelled es = drop-drop n place log ∙ ap (λ (k : ℕ). drop k log) (sym one.next) ∙ rest.0 in
+    let behind : drop n (drop place log) ≡ all_spelled es = drop-drop n place log ∙ ap (λ (k : ℕ). drop k log) (same-whole (sym one.next ∙ f.1.0)).1 ∙ rest.0 in
     (sym (take-append-drop n (drop place log)) ∙ rw (one.here, behind), (one.fits, rest.1))
 
 log-found : (log : List ℕ) → Bytes log → (es : List Entry) → LogReadsAs log es → (log ≡ log_spelled es) × AllFieldsFit es
 log-found log bytes es r =
-    let v = version-found log r.0 in
-    let all = all_found log bytes es 1 (rw v.1 at r).1 in
+    let v = version-found log r.0 r.1.0 in
+    let all = all_found log bytes es 1 (rw v.1 at r.1.1) in
     (v.0 ∙ ap (λ (l : List ℕ). 1 ∷ l) all.0, all.1)
 
 -- ---- a whole log is written
@@ -141,7 +142,7 @@ pub round-trips : RoundTrips
 round-trips = record {
   written_read = once-written;
   read-written = once-read;
-  spelled-reads = λ es p. rw (version-read (all_spelled es)) (refl, finds-all es p version_bytes);
+  spelled-reads = λ es p. (1, (version-read (all_spelled es), finds-all es p version_bytes));
   reads-spelled = log-found;
   writes-spelled = left-log;
 }

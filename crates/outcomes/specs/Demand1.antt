@@ -1,13 +1,13 @@
 -- Demand 1: "Every event and every log, however damaged, gets an answer, and no caller has to check first. Refusals are given exactly when
 -- document 01 says, and leave device, lent buffer and log as they were." The tests are those of Numbers and LogNumbers, in 01's words.
-use Rattle.std.specs.Prelude.{ℕ, ◌+◌, ◌*◌, ◌<◌, List, [], ◌∷◌, ◌++◌, ◌↔◌, ◌⊎◌, ◌≢◌, ◌≡◌, length, get_or, take, drop}
+use Rattle.std.specs.Prelude.{ℕ, ◌+◌, ◌*◌, ◌<◌, List, [], ◌∷◌, ◌++◌, ◌↔◌, ◌⊎◌, ◌≢◌, ◌≡◌, length, get_or, take, drop, Some, None, Result, Ok, Err}
 use Rattle.device.specs.Device.{reg}
 use Rattle.device.specs.declared.Device.{Device}
 use Rattle.events.specs.Event.{Event, power_up, write, read, sample, cycle, clock, gives, lent_by}
 use Rattle.events.specs.Run.{next}
 use Rattle.events.specs.Views.{at_read}
 use Rattle.benchlog.specs.Answers.{found_number, begins_number, room_number}
-use Rattle.benchlog.specs.Reader.{read_at, read_version}
+use Rattle.benchlog.specs.Reader.{FoundAt, read_at, read_version}
 use Rattle.benchlog.specs.Whole.{read_log}
 use Rattle.benchlog.specs.Writer.{written, out_after}
 use Rattle.benchlog.specs.declared.Entry.{Entry}
@@ -80,6 +80,17 @@ pub record Tabled (A : Type 0) (due : ℕ → Type 0) (number : ℕ) (before the
   -- Effect "none": "device, lent buffer and log unchanged"
   pub unchanged : number ≢ 0 → then ≡ before
 
+-- where a caller of the log goes on: at the next place, where one is handed out, and else at the place that it gave. The same of what is
+-- found at a place
+abbrev pub next_place : {E : Type 0} → ℕ → Result ℕ E → ℕ
+next_place place (Ok next) = next
+next_place place (Err refusal) = place
+
+abbrev pub place_behind : ℕ → FoundAt → ℕ
+place_behind place (Ok (Some read)) = read.next
+place_behind place (Ok None) = place
+place_behind place (Err refusal) = place
+
 -- what can be asked: "The read length is the length of the lent buffer itself, so the two cannot differ"
 abbrev pub Askable : Event → List ℕ → Type 0
 Askable power_up buffer = Unit {0}
@@ -103,17 +114,17 @@ pub record Demand1 : Type 0 where
   pub never-14 : (d : Device) (e : Event) → (gives d e).number ≢ 14
   -- a log, of any bytes: what it begins with, and what stands at any place of it, also past its end. A reader is lent the log to read alone,
   -- and where it refuses, the next place is the same
-  pub at-start : (log : List ℕ) → Tabled ℕ (DueAtStart log) (begins_number (read_version log).begins) 0 (read_version log).next
-  pub at_place : (log : List ℕ) (place : ℕ) → Tabled ℕ (DueAtPlace (drop place log)) (found_number (read_at log place).found) place (read_at log place).next
+  pub at-start : (log : List ℕ) → Tabled ℕ (DueAtStart log) (begins_number (read_version log)) 0 (next_place 0 (read_version log))
+  pub at_place : (log : List ℕ) (place : ℕ) → Tabled ℕ (DueAtPlace (drop place log)) (found_number (read_at log place)) place (place_behind place (read_at log place))
   -- "every log, however damaged": the number that it is answered when it is read from its start
   pub of-log : (log : List ℕ) (n : ℕ) → ((read_log log).stop ≡ n) ↔ DueOfLog log n
   -- 10, "too little room to write a version byte or record", in lent bytes of any length from any place on: the bytes, and the next place
   pub version-room : (out : List ℕ) (place : ℕ)
       → let w = written out place (1 ∷ []) in
-      Tabled (List ℕ × ℕ) (10 when NoRoomForVersion out place else done) (room_number w.room) (out, place) (out_after out place (1 ∷ []), w.next)
+      Tabled (List ℕ × ℕ) (10 when NoRoomForVersion out place else done) (room_number w) (out, place) (out_after out place (1 ∷ []), next_place place w)
   pub record-room : (out : List ℕ) (place : ℕ) (e : Entry)
       → let w = written out place (spelled e) in
-      Tabled (List ℕ × ℕ) (10 when NoRoomForRecord out place e else done) (room_number w.room) (out, place) (out_after out place (spelled e), w.next)
+      Tabled (List ℕ × ℕ) (10 when NoRoomForRecord out place e else done) (room_number w) (out, place) (out_after out place (spelled e), next_place place w)
   -- where there is room, what is written stands from the place on and all else is as it was; the next place is behind it
-  pub put : (out : List ℕ) (place : ℕ) (bs : List ℕ) → room_number (written out place bs).room ≡ 0
-      → (out_after out place bs ≡ take place out ++ bs ++ drop (place + length bs) out) × ((written out place bs).next ≡ place + length bs)
+  pub put : (out : List ℕ) (place : ℕ) (bs : List ℕ) → room_number (written out place bs) ≡ 0
+      → (out_after out place bs ≡ take place out ++ bs ++ drop (place + length bs) out) × (written out place bs ≡ Ok (place + length bs))

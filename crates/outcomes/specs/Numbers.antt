@@ -61,6 +61,6 @@ answers_to (clock us) = 0 ∷ []
 
 pub record NothingElse : Type 0 where
   pub event : (d : Device) (e : Event) → is_in (answers_to e) (gives d e).number ≡ true
-  pub version : (s : List ℕ) → is_in (0 ∷ 7 ∷ 9 ∷ []) (begins_number (read_version s).begins) ≡ true
-  pub entry : (s : List ℕ) (place : ℕ) → is_in (0 ∷ 8 ∷ 9 ∷ []) (found_number (read_at s place).found) ≡ true
-  pub room : (out : List ℕ) (place : ℕ) (bs : List ℕ) → is_in (0 ∷ 10 ∷ []) (room_number (written out place bs).room) ≡ true
+  pub version : (s : List ℕ) → is_in (0 ∷ 7 ∷ 9 ∷ []) (begins_number (read_version s)) ≡ true
+  pub entry : (s : List ℕ) (place : ℕ) → is_in (0 ∷ 8 ∷ 9 ∷ []) (found_number (read_at s place)) ≡ true
+  pub room : (out : List ℕ) (place : ℕ) (bs : List ℕ) → is_in (0 ∷ 10 ∷ []) (room_number (written out place bs)) ≡ true

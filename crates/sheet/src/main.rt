@@ -213,7 +213,7 @@ fn print_bytes<W: Write>(output: &mut W, gathering: Gathering) -> Printed
     ensures { PrintedOf true gathering result }
 {
     let mut bytes = buffer();
-    sheetfile::write_month(&mut bytes, 0, gathering.month);
+    let _ = sheetfile::write_month(&mut bytes, 0, gathering.month);
     write_bytes(output, gathering, &bytes[..SIZE])
 }
 

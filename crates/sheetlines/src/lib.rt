@@ -1,13 +1,13 @@
 // Q-8: the sheet of a month as text, written into a lent buffer: nineteen lines, for all of which there is room or none is begun.
 #![tactic(auto)]
 
-ghost use Rattle.std.specs.Prelude.{◌≡◌, ◌++◌, ◌+◌, ◌*◌, ◌≤◌, nat_abs, length};
-ghost use Rattle.benchlog.specs.Writer.{lacks_room};
+ghost use Rattle.std.specs.Prelude.{◌≡◌, ◌++◌, ◌+◌, ◌*◌, ◌≤◌, length};
 ghost use Rattle.text.specs.Text.{most_digits, decimal, left_in, place_after};
 ghost use Rattle.wording.specs.Wording.{Spelt, column, signed_column};
 ghost use Rattle.measure.specs.Measure.{g_text};
 ghost use Rattle.sheetlines.specs.Lines.{count_line, counts_text, in_g_text, numbers_text, extremes_text, tally_line, axes_text, ranges_text, logs_line, month_text, most_in_g, longest_sheet};
 
+use benchlog::lacks_room;
 use codes::Range;
 use measure::put_g;
 use sheets::{ByAxis, ByRange, Extremes, Month, Sheet, Tally};
@@ -16,27 +16,8 @@ use text::{put_number, put_word};
 // No month has a longer text.
 pub const LONGEST_SHEET: usize = 1867;
 
-fn lacks_room(room: usize, at: usize) -> bool
-    ensures { result ≡ lacks_room room at longest_sheet }
-{
-    if room < at {
-        true
-    } else {
-        room - at < LONGEST_SHEET
-    }
-}
-
-// How far a number is from 0: the least of all too.
-fn size_of(n: i64) -> u64
-    ensures { result ≡ nat_abs n }
-{
-    if n < 0 {
-        return (0 - (n + 1)) as u64 + 1;
-    }
-    n as u64
-}
-
-// ---- pieces, for which there is room
+// ---- pieces, for which there is room. `number` to `put_signed` are alike in wording: they ask for room, as no public function does, and shared they
+// would look for it again at each piece.
 fn number(out: &mut [u8], at: usize, n: u64) -> usize
     requires { at + most_digits ≤ length out.old }
     ensures { Spelt most_digits out.old at (decimal n) out.new result }
@@ -83,9 +64,9 @@ fn put_signed(out: &mut [u8], at: usize, n: i64) -> usize
 {
     if n < 0 {
         let to = word(&mut *out, at, b"-");
-        return put_column(out, to, size_of(n));
+        return put_column(out, to, n.unsigned_abs());
     }
-    put_column(out, at, size_of(n))
+    put_column(out, at, n.unsigned_abs())
 }
 
 // ---- lines, for which there is room
@@ -219,7 +200,7 @@ fn write_month(out: &mut [u8], at: usize, month: Month) -> usize
 pub fn put_month(out: &mut [u8], at: usize, month: Month) -> usize
     ensures { (result ≡ place_after longest_sheet out.old at (month_text month)) × (out.new ≡ left_in longest_sheet out.old at (month_text month)) }
 {
-    if lacks_room(out.len(), at) {
+    if lacks_room(out.len(), at, LONGEST_SHEET) {
         return at;
     }
     write_month(out, at, month)

@@ -6,6 +6,7 @@ ghost use Rattle.std.specs.Prelude.{◌≡◌, [], ◌∷◌, ◌+◌, ◌*◌, 
 ghost use Rattle.benchlog.specs.Writer.{lacks_room};
 ghost use Rattle.text.specs.Text.{most_digits, hex_digit, hex, behind_space, decimal, front, line, longest_line, letter, letters, letters_length, line_with_pins, longest_with_pins, pins_line, pins_length, Pushed, left_in, place_after};
 
+use benchlog::lacks_room;
 use interrupts::{Level, Pins};
 
 const SPACE: u8 = 32;
@@ -27,44 +28,29 @@ const LONGEST_WITH_PINS: usize = LONGEST_LINE + LETTERS_LENGTH - 1;
 // The bytes of the last line.
 pub const PINS_LENGTH: usize = 9;
 
-// Whether n bytes in hex and so much beside them, from a place on, would pass the end of so much room.
-fn lacks_room(room: usize, at: usize, beside: usize, n: usize) -> bool
+// Whether n bytes in hex and so much beside them, from a place on, would pass the end of so much room: a number of its own, since the sum
+// may be more than a usize holds.
+fn lacks_hex_room(room: usize, at: usize, beside: usize, n: usize) -> bool
     ensures { result ≡ lacks_room room at (beside + 2 * n) }
 {
-    if room < at {
-        return true;
-    }
-    if room - at < beside {
-        return true;
-    }
-    (room - at - beside) / 2 < n
+    lacks_room(room, at, beside) || (room - at - beside) / 2 < n
 }
 
 // How many decimal digits a number has.
 fn digits_in(n: u64) -> usize
     ensures { result ≡ length (decimal n) }
 {
-    let mut count: usize = 1;
-    let mut rest = n;
-    while count < MOST_DIGITS {
-        if rest < 10 {
-            return count;
-        }
-        rest /= 10;
-        count += 1;
-    }
-    count
+    if n == 0 { 1 } else { n.ilog10() as usize + 1 }
 }
 
-// A number's digits, of which there are count, from at on.
+// A number's digits, of which there are count, from at on, the last first. By hand: std's `{n}` writes the same digits, but into a text of its
+// own, which would be copied, and the replay writes one at each record.
 fn spell(out: &mut [u8], at: usize, count: usize, n: u64)
     requires { (count ≡ length (decimal n)) × (at + count ≤ length out.old) }
     ensures { Pushed out.old at (decimal n) out.new (at + count) }
 {
-    let mut i = count;
     let mut rest = n;
-    while 0 < i {
-        i -= 1;
+    for i in (0..count).rev() {
         out[at + i] = 48 + (rest % 10) as u8;
         rest /= 10;
     }
@@ -110,11 +96,9 @@ fn put_hex(out: &mut [u8], at: usize, bytes: &[u8]) -> usize
     requires { at + 2 * length bytes.now ≤ length out.old }
     ensures { Pushed out.old at (hex bytes.now) out.new result }
 {
-    let mut i: usize = 0;
     let mut to = at;
-    while i < bytes.len() {
-        to = put_hex_byte(&mut *out, to, bytes[i]);
-        i += 1;
+    for byte in bytes {
+        to = put_hex_byte(&mut *out, to, *byte);
     }
     to
 }
@@ -136,12 +120,9 @@ fn copy_word(out: &mut [u8], at: usize, word: &[u8]) -> usize
     requires { at + length word.now ≤ length out.old }
     ensures { Pushed out.old at word.now out.new result }
 {
-    let mut i: usize = 0;
-    while i < word.len() {
-        out[at + i] = word[i];
-        i += 1;
-    }
-    at + i
+    let end = at + word.len();
+    out[at..end].copy_from_slice(word);
+    end
 }
 
 // A record's number, its answer and its bytes, for which there is room: its line without the end.
@@ -219,7 +200,7 @@ fn write_pins(out: &mut [u8], at: usize, pins: Pins) -> usize
 pub fn put_line(out: &mut [u8], at: usize, number: u64, answer: u8, bytes: &[u8]) -> usize
     ensures { (result ≡ place_after (longest_line + 2 * length bytes.now) out.old at (line number answer bytes.now)) × (out.new ≡ left_in (longest_line + 2 * length bytes.now) out.old at (line number answer bytes.now)) }
 {
-    if lacks_room(out.len(), at, LONGEST_LINE, bytes.len()) {
+    if lacks_hex_room(out.len(), at, LONGEST_LINE, bytes.len()) {
         return at;
     }
     write_line(out, at, number, answer, bytes)
@@ -236,7 +217,7 @@ pub fn put_line_with_pins(
 ) -> usize
     ensures { (result ≡ place_after (longest_with_pins + 2 * length bytes.now) out.old at (line_with_pins number answer bytes.now pins)) × (out.new ≡ left_in (longest_with_pins + 2 * length bytes.now) out.old at (line_with_pins number answer bytes.now pins)) }
 {
-    if lacks_room(out.len(), at, LONGEST_WITH_PINS, bytes.len()) {
+    if lacks_hex_room(out.len(), at, LONGEST_WITH_PINS, bytes.len()) {
         return at;
     }
     write_line_with_pins(out, at, number, answer, bytes, pins)
@@ -246,7 +227,7 @@ pub fn put_line_with_pins(
 pub fn put_pins(out: &mut [u8], at: usize, pins: Pins) -> usize
     ensures { (result ≡ place_after pins_length out.old at (pins_line pins)) × (out.new ≡ left_in pins_length out.old at (pins_line pins)) }
 {
-    if lacks_room(out.len(), at, PINS_LENGTH, 0) {
+    if lacks_room(out.len(), at, PINS_LENGTH) {
         return at;
     }
     write_pins(out, at, pins)
@@ -256,7 +237,7 @@ pub fn put_pins(out: &mut [u8], at: usize, pins: Pins) -> usize
 pub fn put_number(out: &mut [u8], at: usize, n: u64) -> usize
     ensures { (result ≡ place_after most_digits out.old at (decimal n)) × (out.new ≡ left_in most_digits out.old at (decimal n)) }
 {
-    if lacks_room(out.len(), at, MOST_DIGITS, 0) {
+    if lacks_room(out.len(), at, MOST_DIGITS) {
         return at;
     }
     put_decimal(out, at, n)
@@ -266,7 +247,7 @@ pub fn put_number(out: &mut [u8], at: usize, n: u64) -> usize
 pub fn put_in_hex(out: &mut [u8], at: usize, byte: u8) -> usize
     ensures { (result ≡ place_after 2 out.old at (hex (byte ∷ []))) × (out.new ≡ left_in 2 out.old at (hex (byte ∷ []))) }
 {
-    if lacks_room(out.len(), at, 2, 0) {
+    if lacks_room(out.len(), at, 2) {
         return at;
     }
     put_hex_byte(out, at, byte)
@@ -276,7 +257,7 @@ pub fn put_in_hex(out: &mut [u8], at: usize, byte: u8) -> usize
 pub fn put_word(out: &mut [u8], at: usize, word: &[u8]) -> usize
     ensures { (result ≡ place_after (length word.now) out.old at word.now) × (out.new ≡ left_in (length word.now) out.old at word.now) }
 {
-    if lacks_room(out.len(), at, word.len(), 0) {
+    if lacks_room(out.len(), at, word.len()) {
         return at;
     }
     copy_word(out, at, word)

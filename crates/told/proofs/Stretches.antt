@@ -19,12 +19,12 @@ use Rattle.stretches.specs.Histories.{account_of, counts_of, refusals, readouts_
 use Rattle.counts.specs.declared.Account.{Account}
 use Rattle.counts.specs.declared.Counts.{Counts}
 use Rattle.counts.specs.declared.Why.{Why}
-use Rattle.counts.specs.declared.Why.TheVariants.{Nothing}
+use Rattle.std.proofs.Common.{Option, None}
 use Rattle.stretches.proofs.Ranges.{SameRange, range-lasts}
 use Rattle.stretches.proofs.Stretches.{ends_is, last_end-part, stretches-lead, all-lead, sums, each-conserves, each-differs}
 use Rattle.wording.specs.Wording.{stretch_line, moded_line, last_line, line_text}
 use Rattle.wording.specs.declared.Line.TheVariants as line
-use Rattle.answers.specs.Answer.{stretch_of, ended_of, rest_text}
+use Rattle.answers.specs.Answer.{text_if, stretch_of, ended_of, rest_text}
 use Rattle.told.specs.Histories.{told_of, end_of}
 use Rattle.told.specs.Plain.{printed_stretches, seen_at, line_of, lines_for, rest_of, columns_of, added_up}
 use Rattle.answers.specs.declared.Asked.{Asked}
@@ -32,18 +32,18 @@ use Rattle.answers.specs.declared.Asked.TheVariants.{Stretches, Modes}
 
 -- ---- the lines
 -- a line that is chosen, with its mode or without
-moded-line : (moded : Bool) (from before behind : Account) (w : Why)
+moded-line : (moded : Bool) (from before behind : Account) (w : Option Why)
     → line_text (stretch_of moded from before behind w) ≡ pick moded (moded_line from before behind w) (stretch_line from before behind w)
 moded-line moded from before behind w = of-pick line_text moded (line.Moded from before behind w) (line.Stretch from before behind w)
 
 -- of a stretch that a record ends, where it does
 pub ended-line : (moded : Bool) (r : Recorded) (rs : List Recorded)
-    → line_text (ended_of moded (account_of (last_end rs)) (account_of rs) (account_of (r ∷ rs)) (why_with r rs))
+    → text_if (ended_of moded (account_of (last_end rs)) (account_of rs) (account_of (r ∷ rs)) (why_with r rs))
     ≡ pick (is_end r.own) (line_of moded (ending_with r rs)) []
 ended-line moded r rs = go (is_end r.own) (ends_is (before_own r rs) r.own)
   where
     go : (t : Bool) → ends (why_with r rs) ≡ t
-        → line_text (ended_of moded (account_of (last_end rs)) (account_of rs) (account_of (r ∷ rs)) (why_with r rs)) ≡ pick t (line_of moded (ending_with r rs)) []
+        → text_if (ended_of moded (account_of (last_end rs)) (account_of rs) (account_of (r ∷ rs)) (why_with r rs)) ≡ pick t (line_of moded (ending_with r rs)) []
     go true q = rw q (moded-line moded (account_of (last_end rs)) (account_of rs) (account_of (r ∷ rs)) (why_with r rs))
     go false q = rw q
 
@@ -79,7 +79,7 @@ stretches-told moded (r ∷ rs) = ended-text moded r rs ∙ rw (stretches-told m
 -- the rest, where records are left
 pub rest-line : (moded begun : Bool) (rs : List Recorded) (refusal : ℕ)
     → rest_text moded begun (account_of (last_end rs)) (account_of rs) refusal ≡ rest_of moded rs ++ last_line begun (length rs) refusal
-rest-line moded begun rs refusal = rw (moded-line moded (account_of (last_end rs)) (account_of rs) (account_of rs) Nothing)
+rest-line moded begun rs refusal = rw (moded-line moded (account_of (last_end rs)) (account_of rs) (account_of rs) None)
 
 -- of a whole log
 pub stretches-whole : (moded : Bool) (rs : List Recorded) (begun : Bool) (refusal : ℕ)

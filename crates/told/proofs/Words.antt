@@ -19,12 +19,13 @@ use Rattle.recorded.specs.Recorded.{Recorded, answer_to}
 use Rattle.counts.specs.Counts.{differences, is_same_range, is_same_mode}
 use Rattle.counts.specs.declared.Account.{Account}
 use Rattle.counts.specs.declared.Why.{Why}
+use Rattle.std.proofs.Common.{Option, None, Some}
 use Rattle.stretches.specs.Histories.{account_of, is_end, last_end, Stretch, ending_with, stretches, Part, Between, Each, inside as inside_of}
 use Rattle.stretches.proofs.Histories.{differences-are}
 use Rattle.stretches.proofs.Stretches.{last_end-part, sums, each-differs}
-use Rattle.wording.specs.Wording.{refused_line, range_line, mode_line, short_line, over_line, line_text}
+use Rattle.wording.specs.Wording.{refused_line, range_line, mode_line, short_line, over_line}
 use Rattle.wording.specs.declared.Line.TheVariants as line
-use Rattle.answers.specs.Answer.{in_force_text, refused_of, totals_words, inside_text, words_text, last_number, record_text}
+use Rattle.answers.specs.Answer.{text_if, in_force_text, refused_of, totals_words, inside_text, words_text, last_number, record_text}
 use Rattle.told.specs.Histories.{at_mark, told_of, end_of}
 use Rattle.told.specs.Plain.{columns_of, refused_write, changed_by, said_from, totals_from, Summed}
 use Rattle.answers.specs.declared.Asked.{Asked}
@@ -69,9 +70,9 @@ words-sum later h l k room =
 -- ---- the lines
 -- what is chosen, line by line: a refused write, what changed, and the totals
 refused-is : (n : ℕ) (e : Event) (answer : Answer)
-    → line_text (refused_of n e answer) ≡ at_write [] (λ a byte. pick (accepted answer) [] (refused_line n byte a (number answer))) e
+    → text_if (refused_of n e answer) ≡ at_write [] (λ a byte. pick (accepted answer) [] (refused_line n byte a (number answer))) e
 refused-is n power_up answer = refl
-refused-is n (write a byte) answer = of-pick line_text (accepted answer) line.Nothing _
+refused-is n (write a byte) answer = of-pick text_if (accepted answer) None _
 refused-is n (read a count) answer = refl
 refused-is n (sample x y z temperature) answer = refl
 refused-is n cycle answer = refl
@@ -93,12 +94,12 @@ changed-is r rs = go (is_same_range (account_of (r ∷ rs)) (account_of rs)) (is
 totals-are : (h k : List Recorded) → totals_words (account_of h) (account_of k) ≡ totals_from h k
 totals-are h k =
     let n = differences (account_of h).counts (account_of k).counts in
-    rw (of-pick line_text (eqb n.lost 0) line.Nothing line.Lost, of-pick line_text (eqb n.readouts 0) line.NoReadout line.Nothing)
+    rw (of-pick text_if (eqb n.lost 0) None (Some line.Lost), of-pick text_if (eqb n.readouts 0) (Some line.NoReadout) None)
 
 -- the words between from and upto, where from is below upto: asked so, or of the whole log
 pub record Worded (asked : Asked) (from upto : ℕ) : Type 0 where
   pub some : from < upto
-  pub text : (mark before behind : Account) (e : Event) (a : Answer) (w : Why) → record_text asked mark before behind e a w ≡ words_text from upto mark before behind e a
+  pub text : (mark before behind : Account) (e : Event) (a : Answer) (w : Option Why) → record_text asked mark before behind e a w ≡ words_text from upto mark before behind e a
 
 pub between-worded : (from upto : ℕ) → from < upto → Worded (asked.Between from upto) from upto
 between-worded from upto h = record { some = h; text = λ mark before behind e a w. refl }

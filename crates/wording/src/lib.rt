@@ -3,10 +3,10 @@
 #![tactic(auto)]
 
 ghost use Rattle.std.specs.Prelude.{◌≡◌, ◌+◌, ◌≤◌, [], ◌∷◌, ◌++◌, length};
-ghost use Rattle.benchlog.specs.Writer.{lacks_room};
 ghost use Rattle.text.specs.Text.{most_digits, decimal, hex, Pushed, left_in, place_after};
 ghost use Rattle.wording.specs.Wording.{longest_wording, Spelt, column, range_word, mode_word, doubt_sign, range_column, why_word, counts_text, stretch_columns, stretch_line, moded_line, stopped_at, last_line, signed_column, sample_line, wrote_text, refused_line, because_text, from_text, range_line, frames_word, mode_line, totals_text, held_text, totals_line, ended_word, short_line, over_line, line_text};
 
+use benchlog::lacks_room;
 use codes::{CONTROL_AT, Mode, RANGE_AT, Range};
 use counts::{Account, Counts, Doubt, Why};
 use text::{put_in_hex, put_number, put_word};
@@ -38,16 +38,6 @@ pub enum Line {
 // No line is longer.
 pub const LONGEST_WORDING: usize = 320;
 
-fn lacks_room(room: usize, at: usize) -> bool
-    ensures { result ≡ lacks_room room at longest_wording }
-{
-    if room < at {
-        true
-    } else {
-        room - at < LONGEST_WORDING
-    }
-}
-
 // The record that was refused.
 fn stopped_at(begun: bool, records: u64) -> u64
     ensures { result ≡ stopped_at begun records }
@@ -55,7 +45,7 @@ fn stopped_at(begun: bool, records: u64) -> u64
     if begun { records.wrapping_add(1) } else { 0 }
 }
 
-// ---- pieces, for which there is room
+// ---- pieces, for which there is room. `number` to `put_signed` are alike in sheetlines, which says why they are not shared.
 fn number(out: &mut [u8], at: usize, n: u64) -> usize
     requires { at + most_digits ≤ length out.old }
     ensures { Spelt most_digits out.old at (decimal n) out.new result }
@@ -444,7 +434,7 @@ fn write_line(out: &mut [u8], at: usize, line: Line) -> usize
 pub fn put_line(out: &mut [u8], at: usize, line: Line) -> usize
     ensures { (result ≡ place_after longest_wording out.old at (line_text line)) × (out.new ≡ left_in longest_wording out.old at (line_text line)) }
 {
-    if lacks_room(out.len(), at) {
+    if lacks_room(out.len(), at, LONGEST_WORDING) {
         return at;
     }
     write_line(out, at, line)
@@ -463,7 +453,7 @@ pub fn put_sample(
 ) -> usize
     ensures { (result ≡ place_after longest_wording out.old at (sample_line nth x y z lost back)) × (out.new ≡ left_in longest_wording out.old at (sample_line nth x y z lost back)) }
 {
-    if lacks_room(out.len(), at) {
+    if lacks_room(out.len(), at, LONGEST_WORDING) {
         return at;
     }
     write_sample(out, at, nth, x, y, z, lost, back)

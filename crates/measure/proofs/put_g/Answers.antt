@@ -4,7 +4,6 @@ use native.Mathlib.Omega.{arith}
 use borrow.Author.Tests.{ltb-false}
 use lib.IntN.{ℤ}
 use lib.ListN.{length}
-use lib.Signed.{mag}
 use lib.Ieee.{Float}
 use mir.Syntax.{w16, w32}
 use mir.Val.{SFits, to_z, of_z}

@@ -9,11 +9,11 @@ unfolding signed_column
 returns-then-n-lt0 c =
     let f = c.ranges.n in
     rw (rw (to_z-of_z {w = w64} f) at c.if-n-lt0.true)
-    (spelt-two c.word-to.ensures (rw (c.size_of.ensures, to_z-of_z {w = w64} f) at c.put_column.ensures))
+    (spelt-two c.word-to.ensures (rw (c.unsigned_abs.ensures.value, to_z-of_z {w = w64} f) at c.put_column.ensures))
 
 pub returns : goal.returns
 unfolding signed_column
 returns c =
     let f = c.ranges.n in
     rw (rw (to_z-of_z {w = w64} f) at c.if-n-lt0.false)
-    (spelt-within (omega arith) (rw (c.size_of-2.ensures, to_z-of_z {w = w64} f) at c.put_column-2.ensures))
+    (spelt-within (omega arith) (rw (c.unsigned_abs-2.ensures.value, to_z-of_z {w = w64} f) at c.put_column-2.ensures))

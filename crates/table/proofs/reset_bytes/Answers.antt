@@ -1,15 +1,14 @@
-use Prim.Native.Nat.{ℕ, ◌<◌}
+use Prim.Native.Nat.{◌<◌}
 use mathlib.Core.Path.{ap, ◌∙◌, sym, ◌≡◌}
-use mathlib.Core.List.{List}
 use native.Mathlib.Omega.{arith}
-use lib.ListN.{length, get_or}
+use lib.ListN.{get_or}
 use borrow.Author.Rules.{rules}
 use Rattle.std.proofs.lemmas.List.{ext_get_or}
 use Rattle.laws.specs.Table.{up_from}
 use Rattle.laws.proofs.Table.{entry}
 use Rattle.table.specs.Rows.{row_of, reset_bytes, paper_line_of, listed, reserved_addresses, refused_bits}
 use Rattle.table.specs.declared.Row.{Row}
-use Rattle.table.proofs.Rows.{reset-at, reset-length}
+use Rattle.table.proofs.Rows.{reset-length}
 use Rattle.table.proofs.reset_bytes.Goals as goal
 
 pub returns : goal.returns

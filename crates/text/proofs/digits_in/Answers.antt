@@ -1,47 +1,42 @@
-use Prim.Native.Nat.{ℕ, suc, ◌+◌, ◌-◌, ◌/◌, ◌%◌, ◌≤◌, ◌<◌}
-use mathlib.Core.Bool.{Bool, true, false}
-use mathlib.Core.List.{[], ◌∷◌, ◌++◌}
-use mathlib.Core.Path.{◌≡◌, refl}
+-- A number from 10 to the m on, and below ten times that, has m + 1 digits.
+use Prim.Native.Nat.{ℕ, zero, suc, ◌+◌, ◌*◌, ◌/◌, ◌%◌, ◌^◌, ◌≤◌, ◌<◌}
+use mathlib.Core.List.{List, [], ◌∷◌, ◌++◌}
+use mathlib.Core.Path.{◌≡◌, refl, sym}
+use native.Mathlib.Nat.{pow-suc}
 use native.Mathlib.Omega.{arith}
-use borrow.Author.Tests.{lt-ltb, le-ltb}
-use lib.Dec.{ltb}
 use lib.ListN.{length, length-append}
-use Rattle.laws.specs.Choice.{pick}
-use Rattle.text.specs.Text.{digit, last_digits, most_digits, decimal}
+use Rattle.text.specs.Text.{digit, most_digits, decimal}
+use Rattle.text.proofs.Texts.{by_digits}
+use Rattle.text.proofs.Numerals.{decimal-zero}
 use Rattle.text.proofs.digits_in.Goals as goal
 
-one : (k n : ℕ) → n < 10 → length (last_digits (suc k) n) ≡ 1
-unfolding last_digits
-one k n h = rw (lt-ltb n 10 h)
+some : (m : ℕ) → 1 ≤ 10 ^ m
+some zero = omega arith
+some (suc m) = rw (pow-suc 10 m) (omega (arith, some m))
 
-more : (k n : ℕ) → 10 ≤ n → length (last_digits (suc k) n) ≡ length (last_digits k (n / 10)) + 1
-unfolding last_digits
-more k n h = rw (le-ltb n 10 h) (length-append (last_digits k (n / 10)) _)
-
-last : (n : ℕ) → length (last_digits 1 n) ≡ 1
-unfolding last_digits
-last n = go (ltb n 10)
-  where
-    go : (t : Bool) → length (pick t (digit n ∷ []) ([] ++ (digit (n % 10) ∷ []))) ≡ 1
-    go true = refl
-    go false = refl
-
-pub loop-count-init : goal.loop-count-init
+so_many : (n m : ℕ) → 10 ^ m ≤ n → n < 10 * 10 ^ m → m < most_digits → length (decimal n) ≡ m + 1
 unfolding decimal
-loop-count-init c = (omega arith, omega arith, refl)
+so_many n m = by_digits (λ k n l. (m : ℕ) → 10 ^ m ≤ n → n < 10 * 10 ^ m → m < k → length l ≡ m + 1)
+    (λ n m p q h. absurd (omega arith))
+    one
+    more
+    most_digits n m
+  where
+    one : (k n : ℕ) → n < 10 → (m : ℕ) → 10 ^ m ≤ n → n < 10 * 10 ^ m → m < suc k → 1 ≡ m + 1
+    one k n h zero p q r = refl
+    one k n h (suc m) p q r = absurd (omega (arith, pow-suc 10 m, some m))
 
-pub returns-then-rest-lt10 : goal.returns-then-rest-lt10
-returns-then-rest-lt10 c = omega (arith, one (most_digits - c.loop-count.count) c.loop-count.rest c.if-rest-lt10.true)
+    more : (k n : ℕ) (l : List ℕ) → 10 ≤ n → ((m : ℕ) → 10 ^ m ≤ n / 10 → n / 10 < 10 * 10 ^ m → m < k → length l ≡ m + 1)
+        → (m : ℕ) → 10 ^ m ≤ n → n < 10 * 10 ^ m → m < suc k → length (l ++ (digit (n % 10) ∷ [])) ≡ m + 1
+    more k n l h f zero p q r = absurd (omega arith)
+    more k n l h f (suc m) p q r =
+        let e = pow-suc 10 m in
+        rw (length-append l _) (omega (arith, f m (omega arith) (omega arith) (omega arith)))
 
-pub loop-count-preserved : goal.loop-count-preserved
-loop-count-preserved c =
-    let l = c.loop-count in
-    let k : most_digits - l.count ≡ suc (most_digits - (l.count + 1)) = omega arith in
-    (omega arith, omega arith, rw (← k) (omega (arith, more (most_digits - l.count) l.rest c.if-rest-lt10.false)))
+pub returns-then-n-eq0 : goal.returns-then-n-eq0
+returns-then-n-eq0 c = rw (c.if-n-eq0.true, decimal-zero)
 
-pub returns : goal.returns
-returns c =
-    let l = c.loop-count in
-    let k : l.count ≡ most_digits = omega arith in
-    let e : length (last_digits (suc (most_digits - l.count)) l.rest) ≡ 1 = rw k (last l.rest) in
-    omega arith
+pub returns-else-n-eq0 : goal.returns-else-n-eq0
+returns-else-n-eq0 c =
+    let e = c.ilog10.ensures in
+    sym (so_many c.args.n c.ilog10.result e.power_le e.next_power_gt e.bound)

@@ -1,7 +1,6 @@
 use mathlib.Core.Path.{ap}
 use borrow.Author.Rules.{rules}
 use Rattle.std.specs.Prelude.{Some}
-use Rattle.slopes.specs.Slope.{slope_of}
 use Rattle.slopes.specs.Previous.{slopes_to}
 use Rattle.slopes.specs.declared.Slopes.{Slopes}
 use Rattle.slopes.proofs.Previous.slopes_to.Goals as goal
