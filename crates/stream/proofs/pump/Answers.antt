@@ -1,5 +1,5 @@
 -- What the turns did before, and the last of them, come to the end of the pump.
-use Rattle.std.proofs.Common.{arith, ◌≡◌, length, ◌<◌, [], refl, sym, ◌∙◌}
+use Rattle.std.proofs.Common.{arith, ◌≡◌, length, [], refl, sym, ◌∙◌}
 use Rattle.jobs.specs.Follower.{worker}
 use Rattle.stream.specs.Pump.{most_turns, none}
 use Rattle.stream.proofs.Turns.{turned_on}
