@@ -22,7 +22,7 @@ use Rattle.codes.specs.Range.{range_of}
 use Rattle.channels.specs.Codes.{in_range}
 use Rattle.table.specs.Rows.{row_at, the_table}
 use Rattle.std.specs.Prelude.{Result, Ok, Err}
-use Rattle.registers.specs.Answers.{Answer, done, refusal_number, number, accepted}
+use Rattle.registers.specs.Answers.{Answer, done, number, accepted}
 use Rattle.registers.specs.Deeds.{judgement}
 use Rattle.registers.specs.Refused.{reserved_code, not_modelled, lack_at, write_rows, read_rows, answer_at, write_answer, read_answer}
 use Rattle.registers.specs.declared.Refusal.TheVariants.{NoAddress, ReservedCode}
