@@ -1,5 +1,5 @@
 -- `fifo::give` meets its contract: the first bytes are put, and zeros behind them.
-use Rattle.std.proofs.Common.{ℕ, zero, suc, ◌+◌, ◌-◌, ◌≤◌, min, ◌≡◌, refl, ap, sym, ◌∙◌, List, [], ◌∷◌, ◌++◌, append-nil, arith, length, take, drop, length-drop}
+use Rattle.std.proofs.Common.{ℕ, zero, suc, ◌+◌, ◌-◌, ◌≤◌, min, ◌≡◌, refl, ap, sym, ◌∙◌, List, [], ◌∷◌, ◌++◌, append-nil, arith, length, take, drop, length-drop, rules}
 use Rattle.std.proofs.Math.ListN.{drop_of_length-le}
 use Rattle.std.proofs.Math.Seq.{paste, length-paste, length-take-le, take_all, take_at, take-add, take-take, take-append-le, drop-append-le}
 use Rattle.laws.specs.Bytes.{zeros, first_or_zeros}
