@@ -5,7 +5,6 @@ use Rattle.laws.specs.Outcome.{Settled}
 use Rattle.follow.specs.contracts.HaltFromRefusal.from as halt-of-refusal
 use Rattle.follow.specs.contracts.open_log as open-log
 use Rattle.follow.specs.contracts.seek as seek
-use Rattle.follow.specs.contracts.HaltFromRefusal.from as halt-of-refusal
 use Rattle.outcomes.proofs.Plain.{plain}
 
 halt-of-refusal-settled : Settled halt-of-refusal.ended (λ M 𝓤. halt-of-refusal.clauses) (λ M 𝓤. halt-of-refusal.spec)
@@ -16,6 +15,3 @@ open-log-settled = plain (λ κs a s s'. refl)
 
 seek-settled : Settled seek.ended (λ M 𝓤. seek.clauses) (λ M 𝓤. seek.spec)
 seek-settled = plain (λ κs a s s'. refl)
-
-halt-of-refusal-settled : Settled halt-of-refusal.ended (λ M 𝓤. halt-of-refusal.clauses) (λ M 𝓤. halt-of-refusal.spec)
-halt-of-refusal-settled = plain (λ κs a s s'. refl)
