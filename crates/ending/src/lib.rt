@@ -9,19 +9,16 @@ ghost use Rattle.ending.specs.Ending.{digit_of, misused, whole_up_to};
 use jobs::Follower;
 use std::io::Write;
 use std::rt::Files;
-use stream::{Ended, How, status_of};
+use stream::{Ended, How, Status, status_of};
 
 // The link of descriptor 3.
 const STATUS: &str = "/proc/self/fd/3";
 
-// The status of a program that was not used as it is meant to be.
-const MISUSED: u8 = 2;
-
 // The digit of a status, in ASCII.
-fn digit_of(status: u8) -> u8
+fn digit_of(status: Status) -> u8
     ensures { result ≡ digit_of status }
 {
-    48u8.wrapping_add(status)
+    48u8.wrapping_add(status.into())
 }
 
 // The digit of a program that came to its end so.
@@ -39,7 +36,7 @@ fn give_misused<R: Files>(rt: &R, digit: u8)
 }
 
 // The digit of a program that has this status.
-fn give_status<R: Files>(rt: &R, status: u8, digit: u8)
+fn give_status<R: Files>(rt: &R, status: Status, digit: u8)
     requires { digit ≡ digit_of status }
 {
     caller::put_byte(rt, STATUS, digit);
@@ -99,10 +96,10 @@ pub fn tell_use<R: Files, E: Write>(rt: &R, errors: &mut E, program: &[u8], use_
     say(&mut *errors, b": ");
     say(&mut *errors, use_line);
     say(&mut *errors, b"\n");
-    give_misused(rt, digit_of(MISUSED));
+    give_misused(rt, digit_of(Status::Misused));
 }
 
 // The end of a program that has this status, behind all that it says.
-pub fn tell_status<R: Files>(rt: &R, status: u8) {
+pub fn tell_status<R: Files>(rt: &R, status: Status) {
     give_status(rt, status, digit_of(status));
 }

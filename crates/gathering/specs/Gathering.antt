@@ -11,6 +11,8 @@ use Rattle.sheeting.specs.declared.Sheeting.{Sheeting}
 use Rattle.stream.specs.declared.Ended.{Ended}
 use Rattle.stream.specs.declared.How.{How}
 use Rattle.stream.specs.declared.How.TheVariants as how
+use Rattle.stream.specs.declared.Status.{Status}
+use Rattle.stream.specs.declared.Status.TheVariants.{Done, Refused, Failed, Misused}
 use Rattle.gathering.specs.declared.LeftOut.{LeftOut}
 use Rattle.gathering.specs.declared.LeftOut.TheVariants.{TooLarge, NotRead, NoSheet}
 
@@ -38,12 +40,15 @@ unfoldable pub sheet_added : Month → List ℕ → Result Month LeftOut
 sheet_added m bytes = read_added m (decode bytes)
 
 -- ---- statuses: 2 goes before 1, 1 before 3, and 3 before 0
-abbrev pub rank_of : ℕ → ℕ
-rank_of status = pick (eqb status 2) 3 (pick (eqb status 1) 2 (pick (eqb status 3) 1 0))
+abbrev pub rank_of : Status → ℕ
+rank_of Misused = 3
+rank_of Failed = 2
+rank_of Refused = 1
+rank_of Done = 0
 
-unfoldable pub worse_of : ℕ → ℕ → ℕ
+unfoldable pub worse_of : Status → Status → Status
 worse_of one other = pick (ltb (rank_of one) (rank_of other)) other one
 
 -- 3, where some log was refused
-unfoldable pub month_status : Month → ℕ
-month_status m = pick (eqb m.refused 0) 0 3
+unfoldable pub month_status : Month → Status
+month_status m = pick (eqb m.refused 0) Done Refused

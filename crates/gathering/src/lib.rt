@@ -2,13 +2,13 @@
 #![tactic(auto)]
 
 ghost use Rattle.std.specs.Prelude.{◌≡◌};
-ghost use Rattle.gathering.specs.Gathering.{log_added, sheet_added, rank_of, worse_of, month_status};
+ghost use Rattle.gathering.specs.Gathering.{log_added, sheet_added, worse_of, month_status};
 ghost use Rattle.gathering.specs.declared.LeftOut.TheVariants as left;
 
 use sheetfile::{NoSheet, read_month};
 use sheeting::{Sheeting, month_with};
 use sheets::{Month, TooLarge};
-use stream::{Ended, How};
+use stream::{Ended, How, Status};
 
 // Why a log or a sheet is left out: a total would not fit, it could not be read, or it is no sheet. The month stays with the caller, as it was.
 #[derive(Clone, Copy, Debug, PartialEq, Eq)]
@@ -55,34 +55,22 @@ pub fn with_sheet(month: Month, bytes: &[u8]) -> Result<Month, LeftOut>
 }
 
 // ---- statuses
-// 2 goes before 1, 1 before 3, and 3 before 0.
-fn rank_of(status: u8) -> u8
-    ensures { result ≡ rank_of status }
-{
-    match status {
-        2 => 3,
-        1 => 2,
-        3 => 1,
-        _ => 0,
-    }
-}
-
-// That of two which goes before the other.
+// That of two which goes before the other: 2 goes before 1, 1 before 3, and 3 before 0.
 #[tactic(auto, unfolding(crate::specs::Gathering::worse_of))]
-pub fn worse(one: u8, other: u8) -> u8
+pub fn worse(one: Status, other: Status) -> Status
     ensures { result ≡ worse_of one other }
 {
-    if rank_of(one) < rank_of(other) {
-        other
-    } else {
-        one
-    }
+    one.max(other)
 }
 
 // Of a month in which some log was refused, 3.
 #[tactic(auto, unfolding(crate::specs::Gathering::month_status))]
-pub fn status_of(month: Month) -> u8
+pub fn status_of(month: Month) -> Status
     ensures { result ≡ month_status month }
 {
-    if month.refused == 0 { 0 } else { 3 }
+    if month.refused == 0 {
+        Status::Done
+    } else {
+        Status::Refused
+    }
 }

@@ -31,10 +31,11 @@ use Rattle.sheeting.specs.Sheeting as sheet
 use Rattle.sheets.specs.declared.Month.{Month}
 use Rattle.sheeting.specs.Sheeting.{sheeter, sheet_of, log_sheet, month_with}
 use Rattle.sheeting.specs.declared.Sheeting.{Sheeting}
-use Rattle.stream.specs.Pump.{PumpedAs, status_of}
+use Rattle.stream.specs.Pump.{PumpedAs, status_of, status_number}
 use Rattle.stream.specs.declared.Ended.{Ended}
 use Rattle.stream.specs.declared.How.{How}
 use Rattle.stream.specs.declared.How.TheVariants.{On, Stopped, NotRead, NotWritten}
+use Rattle.stream.specs.declared.Status.TheVariants.{Done, Refused}
 use Rattle.stream.proofs.Blocks.{stopped_by}
 use Rattle.outcomes.specs.Demand1.{DueOfLog}
 use Rattle.outcomes.proofs.Demand1.{demand1}
@@ -44,15 +45,15 @@ use Rattle.gathering.specs.Gathering.{added_of, job_added, log_added}
 use Rattle.programs.specs.Programs.{Followed, Failed, StatusMeans, SheetMeans, ReadMeans, MisuseMeans}
 
 -- ---- by how a pump ended
-stopped-status : (refusal : ℕ) (b : Bool) → eqb refusal 0 ≡ b → ((refusal ≡ 0) × (status_of (Stopped refusal) ≡ 0)) ⊎ ((refusal ≡ 0 → ⊥) × (status_of (Stopped refusal) ≡ 3))
+stopped-status : (refusal : ℕ) (b : Bool) → eqb refusal 0 ≡ b → ((refusal ≡ 0) × (status_number (status_of (Stopped refusal)) ≡ 0)) ⊎ ((refusal ≡ 0 → ⊥) × (status_number (status_of (Stopped refusal)) ≡ 3))
 stopped-status refusal true e = inl (eqb-true refusal 0 e, rw e)
 stopped-status refusal false e = inr (eqb-false refusal 0 e, rw e)
 
-failed-is : (how : How) → (status_of how ≡ 1) ↔ Failed how
+failed-is : (how : How) → (status_number (status_of how) ≡ 1) ↔ Failed how
 failed-is On = (λ e. inr (inr refl), λ f. refl)
 failed-is (Stopped refusal) = (λ e. absurd (not-1 (stopped-status refusal (eqb refusal 0) refl) e), λ f. absurd (not_so f))
   where
-    not-1 : ((refusal ≡ 0) × (status_of (Stopped refusal) ≡ 0)) ⊎ ((refusal ≡ 0 → ⊥) × (status_of (Stopped refusal) ≡ 3)) → status_of (Stopped refusal) ≡ 1 → ⊥
+    not-1 : ((refusal ≡ 0) × (status_number (status_of (Stopped refusal)) ≡ 0)) ⊎ ((refusal ≡ 0 → ⊥) × (status_number (status_of (Stopped refusal)) ≡ 3)) → status_number (status_of (Stopped refusal)) ≡ 1 → ⊥
     not-1 (inl p) e = let z = sym p.1 ∙ e in absurd (omega arith)
     not-1 (inr p) e = let z = sym p.1 ∙ e in absurd (omega arith)
 
@@ -69,12 +70,12 @@ failed-is (Stopped refusal) = (λ e. absurd (not-1 (stopped-status refusal (eqb 
 failed-is NotRead = (λ e. inl refl, λ f. refl)
 failed-is NotWritten = (λ e. inr (inl refl), λ f. refl)
 
-digit-is : (how : How) → digit_of (status_of how) ∷ [] ≡ decimal (status_of how)
+digit-is : (how : How) → digit_of (status_of how) ∷ [] ≡ decimal (status_number (status_of how))
 unfolding decimal last_digits
 digit-is On = refl
 digit-is (Stopped refusal) = go (eqb refusal 0)
   where
-    go : (b : Bool) → digit_of (pick b 0 3) ∷ [] ≡ decimal (pick b 0 3)
+    go : (b : Bool) → digit_of (pick b Done Refused) ∷ [] ≡ decimal (status_number (pick b Done Refused))
     go true = refl
     go false = refl
 digit-is NotRead = refl
@@ -109,8 +110,8 @@ module _ (printed : List ℕ → List ℕ) (who : Teller records) (law : Lawful 
     abbrev number : ℕ
     number = (read_log log).stop
 
-    status-is : status_of ended.how ≡ status_of (Stopped refusal)
-    status-is = ap status_of f.how-is
+    status-is : status_number (status_of ended.how) ≡ status_number (status_of (Stopped refusal))
+    status-is = ap (λ how. status_number (status_of how)) f.how-is
 
     -- what stopped its last run is the number of the log
     number_is : number ≡ refusal
@@ -125,14 +126,14 @@ module _ (printed : List ℕ → List ℕ) (who : Teller records) (law : Lawful 
     only : (n : ℕ) → DueOfLog log n → n ≡ refusal
     only n is = sym ((demand1.of-log log n).1 is) ∙ number_is
 
-    done-is : (status_of ended.how ≡ 0) ↔ DueOfLog log 0
+    done-is : (status_number (status_of ended.how) ≡ 0) ↔ DueOfLog log 0
     done-is = (λ e. go (stopped-status refusal (eqb refusal 0) refl) e, λ is. rw (status-is, ← only 0 is))
       where
-        go : ((refusal ≡ 0) × (status_of (Stopped refusal) ≡ 0)) ⊎ ((refusal ≡ 0 → ⊥) × (status_of (Stopped refusal) ≡ 3)) → status_of ended.how ≡ 0 → DueOfLog log 0
+        go : ((refusal ≡ 0) × (status_number (status_of (Stopped refusal)) ≡ 0)) ⊎ ((refusal ≡ 0 → ⊥) × (status_number (status_of (Stopped refusal)) ≡ 3)) → status_number (status_of ended.how) ≡ 0 → DueOfLog log 0
         go (inl p) e = due 0 (number_is ∙ p.0)
         go (inr p) e = let z = sym p.1 ∙ sym status-is ∙ e in absurd (omega arith)
 
-    refused-is : (status_of ended.how ≡ 3) ↔ (DueOfLog log 7 ⊎ (DueOfLog log 8 ⊎ DueOfLog log 9))
+    refused-is : (status_number (status_of ended.how) ≡ 3) ↔ (DueOfLog log 7 ⊎ (DueOfLog log 8 ⊎ DueOfLog log 9))
     refused-is = (λ e. go (stopped-status refusal (eqb refusal 0) refl) e, back)
       where
         by_number : (number ≡ 0 → ⊥) → Listed number → DueOfLog log 7 ⊎ (DueOfLog log 8 ⊎ DueOfLog log 9)
@@ -141,12 +142,12 @@ module _ (printed : List ℕ → List ℕ) (who : Teller records) (law : Lawful 
         by_number some (inr (inr (inl e))) = inr (inl (due 8 e))
         by_number some (inr (inr (inr e))) = inr (inr (due 9 e))
 
-        go : ((refusal ≡ 0) × (status_of (Stopped refusal) ≡ 0)) ⊎ ((refusal ≡ 0 → ⊥) × (status_of (Stopped refusal) ≡ 3)) → status_of ended.how ≡ 3
+        go : ((refusal ≡ 0) × (status_number (status_of (Stopped refusal)) ≡ 0)) ⊎ ((refusal ≡ 0 → ⊥) × (status_number (status_of (Stopped refusal)) ≡ 3)) → status_number (status_of ended.how) ≡ 3
             → DueOfLog log 7 ⊎ (DueOfLog log 8 ⊎ DueOfLog log 9)
         go (inl p) e = let z = sym p.1 ∙ sym status-is ∙ e in absurd (omega arith)
         go (inr p) e = by_number (λ z. p.0 (sym number_is ∙ z)) (log-listed log)
 
-        back : DueOfLog log 7 ⊎ (DueOfLog log 8 ⊎ DueOfLog log 9) → status_of ended.how ≡ 3
+        back : DueOfLog log 7 ⊎ (DueOfLog log 8 ⊎ DueOfLog log 9) → status_number (status_of ended.how) ≡ 3
         back (inl is) = rw (status-is, ← only 7 is)
         back (inr (inl is)) = rw (status-is, ← only 8 is)
         back (inr (inr is)) = rw (status-is, ← only 9 is)

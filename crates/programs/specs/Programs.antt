@@ -12,7 +12,7 @@ use Rattle.sheeting.specs.declared.Sheeting.{Sheeting}
 use Rattle.months.specs.Months.{with_log}
 use Rattle.gathering.specs.Gathering.{added_of, log_added}
 use Rattle.window.specs.Given.{got_of}
-use Rattle.stream.specs.Pump.{MayFollow, all_blocks, StoppedLog, PumpedAs, status_of}
+use Rattle.stream.specs.Pump.{MayFollow, all_blocks, StoppedLog, PumpedAs, status_of, status_number}
 use Rattle.stream.specs.declared.Ended.{Ended}
 use Rattle.stream.specs.declared.How.{How}
 use Rattle.stream.specs.declared.How.TheVariants.{On, Stopped, NotRead, NotWritten}
@@ -40,14 +40,14 @@ pub record StatusMeans (printed : List ℕ → List ℕ) (who : Teller records) 
   -- and the follower that it hands back is the one to which the log leads
   pub led : (ended : Ended who.State) (log : List ℕ) → Followed printed who first ended log → ended.follower ≡ led_to who first log
   -- 0 exactly where 0 is due of the log: it ended at a record boundary, and nothing was refused
-  pub done : (ended : Ended who.State) (log : List ℕ) → Followed printed who first ended log → (status_of ended.how ≡ 0) ↔ DueOfLog log 0
+  pub done : (ended : Ended who.State) (log : List ℕ) → Followed printed who first ended log → (status_number (status_of ended.how) ≡ 0) ↔ DueOfLog log 0
   -- 3 exactly where 7, 8 or 9 is due of it
   pub refused : (ended : Ended who.State) (log : List ℕ) → Followed printed who first ended log
-      → (status_of ended.how ≡ 3) ↔ (DueOfLog log 7 ⊎ (DueOfLog log 8 ⊎ DueOfLog log 9))
+      → (status_number (status_of ended.how) ≡ 3) ↔ (DueOfLog log 7 ⊎ (DueOfLog log 8 ⊎ DueOfLog log 9))
   -- 1 exactly where the pump says that a call failed, or that the input was too long
-  pub failed : (how : How) → (status_of how ≡ 1) ↔ Failed how
+  pub failed : (how : How) → (status_number (status_of how) ≡ 1) ↔ Failed how
   -- and what goes to descriptor 3 is its digit
-  pub digit : (how : How) → digit_of (status_of how) ∷ [] ≡ decimal (status_of how)
+  pub digit : (how : How) → digit_of (status_of how) ∷ [] ≡ decimal (status_number (status_of how))
 
 -- ---- Q-8: of a log that the sheet's pump followed
 pub record SheetMeans : Type 0 where

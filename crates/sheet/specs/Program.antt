@@ -10,6 +10,8 @@ use Rattle.arguments.specs.declared.SheetWanted.{SheetWanted}
 use Rattle.arguments.specs.declared.SheetWanted.TheVariants.{Print, Raw, Join, JoinRaw}
 use Rattle.stream.specs.Pump.{PumpedAs}
 use Rattle.stream.specs.declared.Ended.{Ended}
+use Rattle.stream.specs.declared.Status.{Status}
+use Rattle.stream.specs.declared.Status.TheVariants.{Done, Refused, Failed, Misused}
 use Rattle.gathering.specs.Gathering.{log_added, sheet_added, worse_of, month_status}
 use Rattle.gathering.specs.declared.LeftOut.{LeftOut}
 use Rattle.gathering.specs.declared.LeftOut.TheVariants.{TooLarge, NotRead, NoSheet}
@@ -43,14 +45,14 @@ abbrev pub Taken : Bool → Month → Result Month LeftOut → Type 0
 Taken true m added = SheetTaken m added
 Taken false m added = LogTaken m added
 
-abbrev pub no_sheet : ℕ
-no_sheet = 2
+abbrev pub no_sheet : Status
+no_sheet = Misused
 
 -- 1 where it cannot be read, 2 where it is no sheet, 3 where a total would not fit
-abbrev pub added_status : Result Month LeftOut → ℕ
-added_status (Ok m) = 0
-added_status (Err TooLarge) = 3
-added_status (Err NotRead) = 1
+abbrev pub added_status : Result Month LeftOut → Status
+added_status (Ok m) = Done
+added_status (Err TooLarge) = Refused
+added_status (Err NotRead) = Failed
 added_status (Err NoSheet) = no_sheet
 
 -- "the sheet unchanged" where it is left out
@@ -67,7 +69,7 @@ pub record NameTaken (join : Bool) (g g' : Gathering) : Type 0 where
 
 -- ---- so many names, one after the other
 pub data Gathered (join : Bool) : ℕ → Gathering → Type 0 where
-  none : Gathered join 0 (record { month = empty_month; status = 0 })
+  none : Gathered join 0 (record { month = empty_month; status = Done })
   more : {n : ℕ} {g g' : Gathering} → Gathered join n g → NameTaken join g g' → Gathered join (suc n) g'
 
 -- ---- the sheet, in the form that is asked for. Who has a Printed has handed the whole sheet of its month to a write, or nothing where the status
@@ -79,10 +81,10 @@ pub record PrintedAs (names : ℕ) (wanted : SheetWanted) (p : Printed) : Type 0
   pub gathered : Gathered (joins wanted) names p.gathering
   pub form : p.raw ≡ raws wanted
 
-abbrev pub written_status : Bool → ℕ
-written_status true = 0
-written_status false = 1
+abbrev pub written_status : Bool → Status
+written_status true = Done
+written_status false = Failed
 
 -- the status of what is left out, of what was refused, and of the write
-abbrev pub status_behind : Printed → ℕ
+abbrev pub status_behind : Printed → Status
 status_behind p = worse_of (worse_of p.gathering.status (month_status p.gathering.month)) (written_status p.whole)

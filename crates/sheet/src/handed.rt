@@ -7,6 +7,7 @@ ghost use Rattle.sheet.specs.Program.{no_sheet, written_status, PrintedOf};
 
 use crate::Gathering;
 use std::io::Write;
+use stream::Status;
 
 // Of what, as bytes or as text, and whether all of it was taken.
 #[derive(Clone, Copy)]
@@ -24,10 +25,14 @@ impl Printed {
     }
 
     // 1 where it could not be written.
-    pub fn status(self) -> u8
+    pub fn status(self) -> Status
         ensures { result ≡ written_status self.whole }
     {
-        if self.whole { 0 } else { 1 }
+        if self.whole {
+            Status::Done
+        } else {
+            Status::Failed
+        }
     }
 }
 

@@ -17,18 +17,19 @@ use std::fs::File;
 use std::io::{Read, Write};
 use std::process::ExitCode;
 use std::str;
+use stream::Status;
 
 // The link of descriptor 5: behind each name a byte goes there, for a caller that counts them.
 const DONE: &str = "/proc/self/fd/5";
 
 // The status behind something that is no sheet.
-const NO_SHEET: u8 = 2;
+const NO_SHEET: Status = Status::Misused;
 
 // The month of the names that are done, and the status of what is left out.
 #[derive(Clone, Copy)]
 struct Gathering {
     month: Month,
-    status: u8,
+    status: Status,
 }
 
 // ---- what is asked for
@@ -149,13 +150,13 @@ fn tell_left_out(rt: &HostRuntime, name: &[u8], why: LeftOut) {
     tell_of(rt, name, why);
 }
 
-fn added_status(added: Result<Month, LeftOut>) -> u8
+fn added_status(added: Result<Month, LeftOut>) -> Status
     ensures { result ≡ added_status added }
 {
     match added {
-        Ok(_) => 0,
-        Err(LeftOut::TooLarge) => 3,
-        Err(LeftOut::NotRead) => 1,
+        Ok(_) => Status::Done,
+        Err(LeftOut::TooLarge) => Status::Refused,
+        Err(LeftOut::NotRead) => Status::Failed,
         Err(LeftOut::NoSheet) => NO_SHEET,
     }
 }
@@ -190,7 +191,7 @@ fn gather(rt: &HostRuntime, count: usize, join: bool) -> Gathering
 {
     let mut gathering = Gathering {
         month: Month::empty(),
-        status: 0,
+        status: Status::Done,
     };
     for i in 2..count {
         gathering = take_word(rt, i, join, gathering);
@@ -232,14 +233,14 @@ fn print<W: Write>(output: &mut W, raw: bool, gathering: Gathering) -> Printed
 }
 
 // A line where it could not be written.
-fn tell_written(rt: &HostRuntime, status: u8) {
-    if status != 0 {
+fn tell_written(rt: &HostRuntime, status: Status) {
+    if status != Status::Done {
         tell_of(rt, b"the output", b" cannot be written");
     }
 }
 
 // The status of all, told last.
-fn tell_status(rt: &HostRuntime, printed: Printed, status: u8)
+fn tell_status(rt: &HostRuntime, printed: Printed, status: Status)
     requires { status ≡ status_behind printed }
 {
     ending::tell_status(rt, status);

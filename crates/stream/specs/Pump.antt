@@ -15,6 +15,8 @@ use Rattle.stream.specs.declared.State.{State}
 use Rattle.stream.specs.declared.Ended.{Ended}
 use Rattle.stream.specs.declared.How.{How}
 use Rattle.stream.specs.declared.How.TheVariants.{On, Stopped, NotRead, NotWritten}
+use Rattle.stream.specs.declared.Status.{Status}
+use Rattle.stream.specs.declared.Status.TheVariants.{Done, Refused, Failed, Misused}
 
 -- ---- between the calls
 -- before the first read
@@ -94,12 +96,20 @@ TurnedAs who NotRead s buffer room s' buffer' =
     ((ran_over who s buffer room).halt ≡ Some Wait) × (s' ≡ seeing ran (at_front ran.window buffer)) × HasRoom ran.window buffer
 TurnedAs who NotWritten s buffer room s' buffer' = s' ≡ s
 
--- the status of the program: 0, or 3 of a log that was refused; 1 where the input or the output failed, or more came than turns can do
-abbrev pub status_of : How → ℕ
-status_of On = 1
-status_of (Stopped refusal) = pick (eqb refusal 0) 0 3
-status_of NotRead = 1
-status_of NotWritten = 1
+-- ---- the status of a program
+-- the number that a caller sees
+abbrev pub status_number : Status → ℕ
+status_number Done = 0
+status_number Refused = 3
+status_number Failed = 1
+status_number Misused = 2
+
+-- done, or of a log that was refused; failed where the input or the output did, or more came than turns can do
+abbrev pub status_of : How → Status
+status_of On = Failed
+status_of (Stopped refusal) = pick (eqb refusal 0) Done Refused
+status_of NotRead = Failed
+status_of NotWritten = Failed
 
 -- ---- turns in a row
 -- what a read gave, where it gave some: nothing is the end of the input

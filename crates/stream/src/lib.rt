@@ -12,7 +12,7 @@ ghost use Rattle.answers.specs.Answer as answer;
 ghost use Rattle.sheeting.specs.Sheeting as sheet;
 ghost use Rattle.jobs.specs.Follower.{worker};
 ghost use Rattle.window.specs.Window.{Within};
-ghost use Rattle.stream.specs.Pump.{pump_start, ran_over, after_run, is_on, is_wait, how_after, MoreReadAs, BehindWrite, TurnedAs, ended_at, PumpedAs, status_of};
+ghost use Rattle.stream.specs.Pump.{pump_start, ran_over, after_run, is_on, is_wait, how_after, MoreReadAs, BehindWrite, TurnedAs, ended_at, PumpedAs, status_of, status_number};
 
 use answers::{Answering, Asked};
 use follow::{Halt, Ran};
@@ -235,14 +235,40 @@ pub fn pump_sheet<R: Read>(input: &mut R) -> Ended<Sheeting>
     pump(input, &mut nowhere, Sheeting::start())
 }
 
-// The status of a program that came to its end so: 0 done, 1 input or output failed, 3 a log that was refused.
-pub fn status_of(how: How) -> u8
+// ---- statuses
+// The status of a program: done, a log was refused, input or output failed, or it was not used as it is meant to be. Of two that hold, the later
+// one is told.
+#[derive(Clone, Copy, Debug, PartialEq, Eq, PartialOrd, Ord)]
+pub enum Status {
+    Done,
+    Refused,
+    Failed,
+    Misused,
+}
+
+// The number that a caller sees.
+impl From<Status> for u8 {
+    ghost from_gives = { λ status number. number ≡ status_number status };
+
+    fn from(status: Status) -> u8 {
+        match status {
+            Status::Done => 0,
+            Status::Refused => 3,
+            Status::Failed => 1,
+            Status::Misused => 2,
+        }
+    }
+}
+
+// The status of a program that came to its end so.
+pub fn status_of(how: How) -> Status
     ensures { result ≡ status_of how }
 {
     match how {
-        How::On => 1,
-        How::Stopped(refusal) => if refusal == 0 { 0 } else { 3 },
-        How::NotRead => 1,
-        How::NotWritten => 1,
+        How::On => Status::Failed,
+        How::Stopped(0) => Status::Done,
+        How::Stopped(_) => Status::Refused,
+        How::NotRead => Status::Failed,
+        How::NotWritten => Status::Failed,
     }
 }
