@@ -1,13 +1,13 @@
-// The account of a device's events, stepped by what the device says: an event, its answer, and the range, the mode and the frames held
-// behind it. It takes a few numbers whatever the events are.
+// The account of a device's events, stepped by what the device says: an event, its answer, and what it shows behind it. It takes a few
+// numbers whatever the events are.
 #![tactic(auto)]
 
 ghost use Rattle.std.specs.Prelude.{◌≡◌};
 ghost use Rattle.events.specs.Event.{write, read, sample, cycle};
 ghost use Rattle.account.specs.Account.{refused_by, readouts_by, why_of_write, why_of_read, doubt_after, doubts_after, account_after};
 
-use codes::{CONTROL_AT, FRAMES_AT, Mode, RANGE_AT, RESET_AT, Range};
-use counts::{Account, Doubt, Doubts, Why};
+use codes::{CONTROL_AT, FRAMES_AT, RANGE_AT, RESET_AT};
+use counts::{Account, Doubt, Doubts, Shown, Why};
 use laws::both;
 use registers::{Answer, SOFT_RESET, is_accepted};
 
@@ -97,44 +97,27 @@ fn readouts_by(address: u8, answer: Answer) -> u64
     }
 }
 
-// Behind a write: its address, its byte and its answer, and the range, the mode and the frames held behind it. Frames that left were
-// cleared.
+// Behind a write: its address, its byte and its answer, and what is shown behind it. Frames that left were cleared.
 #[tactic(auto, unfolding(crate::specs::Account::account_after, crate::specs::Account::counts_after))]
-pub fn after_write(
-    account: Account,
-    address: u8,
-    byte: u8,
-    answer: Answer,
-    range: Range,
-    mode: Mode,
-    held: u64,
-) -> Account
-    ensures { result ≡ account_after account (write address byte) answer range mode held }
+pub fn after_write(account: Account, address: u8, byte: u8, answer: Answer, shown: Shown) -> Account
+    ensures { result ≡ account_after account (write address byte) answer shown.range shown.mode shown.held }
 {
-    let cleared = account.held.wrapping_sub(held);
+    let cleared = account.held.wrapping_sub(shown.held);
     let counts = account.counts.with_left(0, cleared, refused_by(answer));
     let number = account.number.wrapping_add(1);
     let doubts = doubts_after(account.doubts, address, byte, answer, number);
-    account.moved(counts, doubts, range, mode, held)
+    account.moved(counts, doubts, shown)
 }
 
 // Behind a read of so many bytes from an address on. Frames that left were taken.
 #[tactic(auto, unfolding(crate::specs::Account::account_after, crate::specs::Account::counts_after))]
-pub fn after_read(
-    account: Account,
-    address: u8,
-    count: u8,
-    answer: Answer,
-    range: Range,
-    mode: Mode,
-    held: u64,
-) -> Account
-    ensures { result ≡ account_after account (read address count) answer range mode held }
+pub fn after_read(account: Account, address: u8, count: u8, answer: Answer, shown: Shown) -> Account
+    ensures { result ≡ account_after account (read address count) answer shown.range shown.mode shown.held }
 {
-    let taken = account.held.wrapping_sub(held);
+    let taken = account.held.wrapping_sub(shown.held);
     let counts = account.counts.with_left(taken, 0, refused_by(answer));
     let counts = counts.with_readouts(readouts_by(address, answer));
-    account.moved(counts, account.doubts, range, mode, held)
+    account.moved(counts, account.doubts, shown)
 }
 
 // Behind a sample. Where it is accepted there is one frame more, or a sample was lost.
@@ -146,26 +129,24 @@ pub fn after_sample(
     z: i16,
     temperature: u8,
     answer: Answer,
-    range: Range,
-    mode: Mode,
-    held: u64,
+    shown: Shown,
 ) -> Account
-    ensures { result ≡ account_after account (sample x y z temperature) answer range mode held }
+    ensures { result ≡ account_after account (sample x y z temperature) answer shown.range shown.mode shown.held }
 {
     let counts = if is_accepted(answer) {
-        let lost = account.held.wrapping_add(1).wrapping_sub(held);
+        let lost = account.held.wrapping_add(1).wrapping_sub(shown.held);
         account.counts.with_arrived(lost)
     } else {
         account.counts.with_left(0, 0, 1)
     };
-    account.moved(counts, account.doubts, range, mode, held)
+    account.moved(counts, account.doubts, shown)
 }
 
 // Behind an event at which no frame comes or goes: a cycle start, or a clock, of which account_after says the same (proofs/Idle).
 #[tactic(auto, unfolding(crate::specs::Account::account_after, crate::specs::Account::counts_after))]
-pub fn after_idle(account: Account, answer: Answer, range: Range, mode: Mode, held: u64) -> Account
-    ensures { result ≡ account_after account cycle answer range mode held }
+pub fn after_idle(account: Account, answer: Answer, shown: Shown) -> Account
+    ensures { result ≡ account_after account cycle answer shown.range shown.mode shown.held }
 {
     let counts = account.counts.with_left(0, 0, refused_by(answer));
-    account.moved(counts, account.doubts, range, mode, held)
+    account.moved(counts, account.doubts, shown)
 }

@@ -7,37 +7,19 @@ ghost use Rattle.entries.specs.Entries.{event_of};
 
 use account::{after_idle, after_read, after_sample, after_write};
 use benchlog::Entry;
-use codes::{Mode, Range};
-use counts::Account;
+use counts::{Account, Shown};
 use registers::Answer;
 
-// By the record, its answer, and the range, the mode and the frames held behind it.
+// By the record, its answer, and what is shown behind it.
 #[tactic(auto, unfolding(entries::specs::Entries::event_of))]
-pub fn account_behind(
-    account: Account,
-    entry: Entry,
-    answer: Answer,
-    range: Range,
-    mode: Mode,
-    held: u64,
-) -> Account
-    ensures { result ≡ account_after account (event_of entry) answer range mode held }
+pub fn account_behind(account: Account, entry: Entry, answer: Answer, shown: Shown) -> Account
+    ensures { result ≡ account_after account (event_of entry) answer shown.range shown.mode shown.held }
 {
     match entry {
-        Entry::Write(w) => after_write(account, w.address, w.byte, answer, range, mode, held),
-        Entry::Read(q) => after_read(account, q.address, q.count, answer, range, mode, held),
-        Entry::Sample(s) => after_sample(
-            account,
-            s.x,
-            s.y,
-            s.z,
-            s.temperature,
-            answer,
-            range,
-            mode,
-            held,
-        ),
-        Entry::CycleStart(_) => after_idle(account, answer, range, mode, held),
-        Entry::Clock(_) => after_idle(account, answer, range, mode, held),
+        Entry::Write(w) => after_write(account, w.address, w.byte, answer, shown),
+        Entry::Read(q) => after_read(account, q.address, q.count, answer, shown),
+        Entry::Sample(s) => after_sample(account, s.x, s.y, s.z, s.temperature, answer, shown),
+        Entry::CycleStart(_) => after_idle(account, answer, shown),
+        Entry::Clock(_) => after_idle(account, answer, shown),
     }
 }

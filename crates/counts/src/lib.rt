@@ -34,6 +34,14 @@ pub struct Doubts {
     pub mode: Option<Doubt>,
 }
 
+// What a device shows behind an event: the range and the mode in force, and the frames held.
+#[derive(Clone, Copy)]
+pub struct Shown {
+    pub range: Range,
+    pub mode: Mode,
+    pub held: u64,
+}
+
 // Why a stretch of events ends with this one.
 #[derive(Clone, Copy, PartialEq, Eq)]
 pub enum Why {
@@ -43,7 +51,8 @@ pub enum Why {
     Reset,
 }
 
-// What is known after so many events: the counts, the range and the mode in force and their doubts, and the frames held.
+// What is known after so many events: the counts, the range and the mode in force and their doubts, and the frames held. What is shown
+// stands here field by field: each law of an account names its range, its mode or its frames, and none all three.
 #[derive(Clone, Copy)]
 pub struct Account {
     pub number: u64,
@@ -150,16 +159,16 @@ impl Account {
     }
 
     // One event further.
-    pub fn moved(self, counts: Counts, doubts: Doubts, range: Range, mode: Mode, held: u64) -> Self
-        ensures { result ≡ account_moved self counts doubts range mode held }
+    pub fn moved(self, counts: Counts, doubts: Doubts, shown: Shown) -> Self
+        ensures { result ≡ account_moved self counts doubts shown.range shown.mode shown.held }
     {
         Account {
             number: self.number.wrapping_add(1),
             counts,
             doubts,
-            range,
-            mode,
-            held,
+            range: shown.range,
+            mode: shown.mode,
+            held: shown.held,
         }
     }
 
