@@ -1,6 +1,7 @@
 -- Q-8: "one sheet over many logs": how a month takes them, one after the other, and sheets too; and the status of a program behind them.
 use Rattle.std.specs.Prelude.{ℕ, List, eqb, ltb, Result, Ok, Err}
 use Rattle.laws.specs.Choice.{pick}
+use Rattle.benchlog.specs.Answers.{stop_number}
 use Rattle.sheets.specs.Sheets.{month_joined}
 use Rattle.sheets.specs.declared.Month.{Month}
 use Rattle.sheets.specs.declared.TooLarge as refusal
@@ -24,7 +25,7 @@ added_of (Err e) = Err TooLarge
 -- a log whose pump ended so, with this follower: up to where it stops, a log is in the month, by the number of its refusal; where it cannot be read, it is not
 abbrev pub job_added : Month → How → Sheeting → Result Month LeftOut
 job_added m how.On s = Err NotRead
-job_added m (how.Stopped refusal) s = added_of (month_with m (sheet_of s) refusal)
+job_added m (how.Stopped refusal) s = added_of (month_with m (sheet_of s) (stop_number refusal))
 job_added m how.NotRead s = Err NotRead
 job_added m how.NotWritten s = Err NotRead
 

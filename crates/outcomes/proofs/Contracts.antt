@@ -27,9 +27,7 @@ use Rattle.benchlog.specs.declared.Entry.{Entry}
 use Rattle.benchlog.specs.declared.Entry.TheVariants as entry
 use Rattle.follow.specs.Source.{records}
 use Rattle.std.specs.Prelude.{Some, None, Result, Ok, Err}
-use Rattle.follow.specs.Follow.{step_room, step_as, step_where, step_of, as_sought, sought_of, has_version, opened_as, opened_where, opened_of}
-use Rattle.follow.specs.declared.Halt.{Halt}
-use Rattle.follow.specs.declared.Halt.TheVariants.{Wait, Full, Stop}
+use Rattle.follow.specs.Follow.{Halted, Wait, Full, Stop, as_halted, step_room, step_as, step_where, step_of, as_sought, sought_of, has_version, opened_as, opened_where, opened_of}
 use Rattle.follow.specs.contracts.open_log as open-log
 use Rattle.follow.specs.contracts.seek as seek
 use Rattle.device.specs.contracts.Device.write as write-contract
@@ -159,7 +157,7 @@ pub write-entry-tabled : Promises write-entry.ended (λ M 𝓤. write-entry.clau
 write-entry-tabled = says (λ κs a r e p. rw (p.0, p.1, encode-spelled a.1.1.0) (demand1.record-room a.0.now a.1.0 a.1.1.0))
 
 -- ---- who follows a log: where it says that the log is at its end, the refusal is the number that is due there, 0 where nothing is refused
-abbrev pub where_stopped : {A : Type 0} → (ℕ → Type 0) → Result A Halt → Type 0
+abbrev pub where_stopped : {A : Type 0} → (ℕ → Type 0) → Result A Halted → Type 0
 where_stopped Due (Ok found) = Unit
 where_stopped Due (Err Wait) = Unit
 where_stopped Due (Err Full) = Unit
@@ -194,8 +192,8 @@ module _ (begun : Bool) (log : List ℕ) (room : ℕ) (last : Bool) where
       go false false true (Err refusal) due = due
       go false false false b due = tt
 
-pub open-log-stops : Promises open-log.ended (λ M 𝓤. open-log.clauses) (λ κs a r e. where_stopped (DueAtStart a.1.0.now) r)
+pub open-log-stops : Promises open-log.ended (λ M 𝓤. open-log.clauses) (λ κs a r e. where_stopped (DueAtStart a.1.0.now) (as_halted r))
 open-log-stops = says (λ κs a r e p. rw p (opened-due a.0 a.1.0.now a.1.1.0 a.1.1.1.0))
 
-pub seek-stops : Promises seek.ended (λ M 𝓤. seek.clauses) (λ κs a r e. where_stopped (DueAtPlace (drop a.1.0 a.0.now)) r)
+pub seek-stops : Promises seek.ended (λ M 𝓤. seek.clauses) (λ κs a r e. where_stopped (DueAtPlace (drop a.1.0 a.0.now)) (as_halted r))
 seek-stops = says (λ κs a r e p. rw p (sought-due a.0.now a.1.0 a.1.1.0 a.1.1.1.0))

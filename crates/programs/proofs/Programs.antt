@@ -1,22 +1,21 @@
 -- What the status of a program means, by the contracts of its pump, and of the programs.
 -- Assumes nothing.
-use Prim.Native.Nat.{ℕ, min}
+use Prim.Native.Nat.{ℕ, min, ◌<◌}
 use mathlib.Core.Bool.{Bool, true, false}
 use mathlib.Core.List.{List, [], ◌∷◌}
 use mathlib.Core.Logic.{◌⊎◌, inl, inr, ◌↔◌}
 use mathlib.Core.Path.{◌≡◌, refl, sym, ap, ◌∙◌}
 use native.Mathlib.Omega.{arith}
-use borrow.Author.Tests.{eqb-true, eqb-false}
-use lib.Dec.{eqb}
 use lib.ListN.{drop}
 use Rattle.laws.specs.Choice.{pick}
-use Rattle.std.specs.Prelude.{Result, Ok, Err}
+use Rattle.std.specs.Prelude.{Option, None, Some, Result, Ok, Err}
 use Rattle.benchlog.specs.Reader.{read_version}
 use Rattle.benchlog.specs.Walk.{walk, behind_version, walk_log}
 use Rattle.benchlog.specs.Whole.{look_record, read_log}
-use Rattle.benchlog.specs.Answers.{refusal_number}
+use Rattle.benchlog.specs.Answers.{refusal_number, stop_number}
 use Rattle.benchlog.specs.declared.Refusal.{Refusal}
 use Rattle.benchlog.specs.declared.Refusal.TheVariants.{WrongVersion, WrongRecord, Cut}
+use Rattle.benchlog.proofs.Logs.{not-done}
 use Rattle.benchlog.proofs.Walks.{walked, records-within, none-cases}
 use Rattle.benchlog.specs.declared.Entry.{Entry}
 use Rattle.follow.specs.Source.{records}
@@ -45,15 +44,16 @@ use Rattle.gathering.specs.Gathering.{added_of, job_added, log_added}
 use Rattle.programs.specs.Programs.{Followed, Failed, StatusMeans, SheetMeans, ReadMeans, MisuseMeans}
 
 -- ---- by how a pump ended
-stopped-status : (refusal : ℕ) (b : Bool) → eqb refusal 0 ≡ b → ((refusal ≡ 0) × (status_number (status_of (Stopped refusal)) ≡ 0)) ⊎ ((refusal ≡ 0 → ⊥) × (status_number (status_of (Stopped refusal)) ≡ 3))
-stopped-status refusal true e = inl (eqb-true refusal 0 e, rw e)
-stopped-status refusal false e = inr (eqb-false refusal 0 e, rw e)
+stopped-status : (stop : Option Refusal) → ((stop_number stop ≡ 0) × (status_number (status_of (Stopped stop)) ≡ 0)) ⊎ ((stop_number stop ≡ 0 → ⊥) × (status_number (status_of (Stopped stop)) ≡ 3))
+stopped-status None = inl (refl, refl)
+stopped-status (Some refusal) = inr (not-done refusal, refl)
 
 failed-is : (how : How) → (status_number (status_of how) ≡ 1) ↔ Failed how
 failed-is On = (λ e. inr (inr refl), λ f. refl)
-failed-is (Stopped refusal) = (λ e. absurd (not-1 (stopped-status refusal (eqb refusal 0) refl) e), λ f. absurd (not_so f))
+failed-is (Stopped refusal) = (λ e. absurd (not-1 (stopped-status refusal) e), λ f. absurd (not_so f))
   where
-    not-1 : ((refusal ≡ 0) × (status_number (status_of (Stopped refusal)) ≡ 0)) ⊎ ((refusal ≡ 0 → ⊥) × (status_number (status_of (Stopped refusal)) ≡ 3)) → status_number (status_of (Stopped refusal)) ≡ 1 → ⊥
+    not-1 : ((stop_number refusal ≡ 0) × (status_number (status_of (Stopped refusal)) ≡ 0)) ⊎ ((stop_number refusal ≡ 0 → ⊥) × (status_number (status_of (Stopped refusal)) ≡ 3))
+        → status_number (status_of (Stopped refusal)) ≡ 1 → ⊥
     not-1 (inl p) e = let z = sym p.1 ∙ e in absurd (omega arith)
     not-1 (inr p) e = let z = sym p.1 ∙ e in absurd (omega arith)
 
@@ -73,11 +73,8 @@ failed-is NotWritten = (λ e. inr (inl refl), λ f. refl)
 digit-is : (how : How) → digit_of (status_of how) ∷ [] ≡ decimal (status_number (status_of how))
 unfolding decimal last_digits
 digit-is On = refl
-digit-is (Stopped refusal) = go (eqb refusal 0)
-  where
-    go : (b : Bool) → digit_of (pick b Done Refused) ∷ [] ≡ decimal (status_number (pick b Done Refused))
-    go true = refl
-    go false = refl
+digit-is (Stopped None) = refl
+digit-is (Stopped (Some refusal)) = refl
 digit-is NotRead = refl
 digit-is NotWritten = refl
 
@@ -104,7 +101,7 @@ log-listed log = go (read_version log)
 -- ---- of a pump that begins before the version byte
 module _ (printed : List ℕ → List ℕ) (who : Teller records) (law : Lawful who) (first : who.State) (off : who.begun first ≡ false) where
   module _ (ended : Ended who.State) (log : List ℕ) (f : Followed printed who first ended log) where
-    abbrev refusal : ℕ
+    abbrev refusal : Option Refusal
     refusal = f.refusal
 
     abbrev number : ℕ
@@ -114,7 +111,7 @@ module _ (printed : List ℕ → List ℕ) (who : Teller records) (law : Lawful 
     status-is = ap (λ how. status_number (status_of how)) f.how-is
 
     -- what stopped its last run is the number of the log
-    number_is : number ≡ refusal
+    number_is : number ≡ stop_number refusal
     number_is =
         let last = f.stopped.last in
         let by = stopped_by law last.done f.rest f.may last.room last.turned.0 in
@@ -123,18 +120,25 @@ module _ (printed : List ℕ → List ℕ) (who : Teller records) (law : Lawful 
     due : (n : ℕ) → number ≡ n → DueOfLog log n
     due n = (demand1.of-log log n).0
 
-    only : (n : ℕ) → DueOfLog log n → n ≡ refusal
+    only : (n : ℕ) → DueOfLog log n → n ≡ stop_number refusal
     only n is = sym ((demand1.of-log log n).1 is) ∙ number_is
 
+    abbrev Told : Type 0
+    Told = ((stop_number refusal ≡ 0) × (status_number (status_of (Stopped refusal)) ≡ 0)) ⊎ ((stop_number refusal ≡ 0 → ⊥) × (status_number (status_of (Stopped refusal)) ≡ 3))
+
     done-is : (status_number (status_of ended.how) ≡ 0) ↔ DueOfLog log 0
-    done-is = (λ e. go (stopped-status refusal (eqb refusal 0) refl) e, λ is. rw (status-is, ← only 0 is))
+    done-is = (go (stopped-status refusal), λ is. back (stopped-status refusal) (only 0 is))
       where
-        go : ((refusal ≡ 0) × (status_number (status_of (Stopped refusal)) ≡ 0)) ⊎ ((refusal ≡ 0 → ⊥) × (status_number (status_of (Stopped refusal)) ≡ 3)) → status_number (status_of ended.how) ≡ 0 → DueOfLog log 0
+        go : Told → status_number (status_of ended.how) ≡ 0 → DueOfLog log 0
         go (inl p) e = due 0 (number_is ∙ p.0)
         go (inr p) e = let z = sym p.1 ∙ sym status-is ∙ e in absurd (omega arith)
 
+        back : Told → 0 ≡ stop_number refusal → status_number (status_of ended.how) ≡ 0
+        back (inl p) e = status-is ∙ p.1
+        back (inr p) e = absurd (p.0 (sym e))
+
     refused-is : (status_number (status_of ended.how) ≡ 3) ↔ (DueOfLog log 7 ⊎ (DueOfLog log 8 ⊎ DueOfLog log 9))
-    refused-is = (λ e. go (stopped-status refusal (eqb refusal 0) refl) e, back)
+    refused-is = (go (stopped-status refusal), back)
       where
         by_number : (number ≡ 0 → ⊥) → Listed number → DueOfLog log 7 ⊎ (DueOfLog log 8 ⊎ DueOfLog log 9)
         by_number some (inl e) = absurd (some e)
@@ -142,15 +146,18 @@ module _ (printed : List ℕ → List ℕ) (who : Teller records) (law : Lawful 
         by_number some (inr (inr (inl e))) = inr (inl (due 8 e))
         by_number some (inr (inr (inr e))) = inr (inr (due 9 e))
 
-        go : ((refusal ≡ 0) × (status_number (status_of (Stopped refusal)) ≡ 0)) ⊎ ((refusal ≡ 0 → ⊥) × (status_number (status_of (Stopped refusal)) ≡ 3)) → status_number (status_of ended.how) ≡ 3
-            → DueOfLog log 7 ⊎ (DueOfLog log 8 ⊎ DueOfLog log 9)
+        go : Told → status_number (status_of ended.how) ≡ 3 → DueOfLog log 7 ⊎ (DueOfLog log 8 ⊎ DueOfLog log 9)
         go (inl p) e = let z = sym p.1 ∙ sym status-is ∙ e in absurd (omega arith)
         go (inr p) e = by_number (λ z. p.0 (sym number_is ∙ z)) (log-listed log)
 
+        is-3 : Told → (n : ℕ) → 0 < n → n ≡ stop_number refusal → status_number (status_of ended.how) ≡ 3
+        is-3 (inl p) n some e = absurd (omega (arith, p.0, e, some))
+        is-3 (inr p) n some e = status-is ∙ p.1
+
         back : DueOfLog log 7 ⊎ (DueOfLog log 8 ⊎ DueOfLog log 9) → status_number (status_of ended.how) ≡ 3
-        back (inl is) = rw (status-is, ← only 7 is)
-        back (inr (inl is)) = rw (status-is, ← only 8 is)
-        back (inr (inr is)) = rw (status-is, ← only 9 is)
+        back (inl is) = is-3 (stopped-status refusal) 7 (omega arith) (only 7 is)
+        back (inr (inl is)) = is-3 (stopped-status refusal) 8 (omega arith) (only 8 is)
+        back (inr (inr is)) = is-3 (stopped-status refusal) 9 (omega arith) (only 9 is)
 
   either_way : (ended : Ended who.State) (how : How) → ended.how ≡ how → PumpedAs how printed who first ended → Failed how ⊎ ((log : List ℕ) × Followed printed who first ended log)
   either_way ended On e p = inl (inr (inr refl))

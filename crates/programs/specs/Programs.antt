@@ -1,6 +1,7 @@
 -- What the status of a program means, and what it writes: of the replay, and of the answer, by what their pumps promise; and what the sheet's
 -- pump hands back of a log.
-use Rattle.std.specs.Prelude.{ℕ, ◌≤◌, List, [], ◌∷◌, ◌++◌, ◌⊎◌, ◌↔◌, ◌≡◌, Ok, Err, IsErr}
+use Rattle.std.specs.Prelude.{ℕ, ◌≤◌, List, [], ◌∷◌, ◌++◌, ◌⊎◌, ◌↔◌, ◌≡◌, Option, Ok, Err, IsErr}
+use Rattle.benchlog.specs.declared.Refusal.{Refusal}
 use Rattle.follow.specs.Source.{records}
 use Rattle.follow.specs.Teller.{Teller}
 use Rattle.follow.specs.Whole.{joined, printed_from, led_to}
@@ -20,7 +21,7 @@ use Rattle.ending.specs.Ending.{digit_of, misused}
 
 -- a pump followed a log to where it stops: the log begins with the parts that came, and is their sum where its end was seen
 pub record Followed (printed : List ℕ → List ℕ) (who : Teller records) (first : who.State) (ended : Ended who.State) (log : List ℕ) : Type 0 where
-  pub refusal : ℕ
+  pub refusal : Option Refusal
   pub how-is : ended.how ≡ Stopped refusal
   pub stopped : StoppedLog printed who first refusal ended
   pub rest : List ℕ

@@ -11,10 +11,10 @@ use borrow.Author.Tests.{ne_eqb}
 use lib.Dec.{eqb}
 use lib.ListN.{length, drop}
 use Rattle.std.specs.Prelude.{Some}
+use Rattle.follow.specs.Follow.{Wait, Stop}
 use Rattle.follow.specs.Source.{records}
 use Rattle.follow.specs.Teller.{Teller, Lawful}
 use Rattle.follow.specs.Whole.{joined, printed_from, stop_from, led_to}
-use Rattle.follow.specs.declared.Halt.TheVariants.{Wait, Stop}
 use Rattle.follow.proofs.Sources.{records-sound}
 use Rattle.follow.proofs.Stream.{Hearing, heard_from, run-heard, the-text, the_number, the-state, waits, run-due}
 use Rattle.follow.proofs.Whole.{joined-append}

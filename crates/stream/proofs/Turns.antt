@@ -12,11 +12,11 @@ use Rattle.benchlog.specs.Writer.{placed}
 use Rattle.text.proofs.Texts.{pushed-length}
 use Rattle.benchlog.specs.Format.{length_field, longest_body}
 use Rattle.benchlog.proofs.Local.{few-undecided}
-use Rattle.follow.specs.Follow.{Running}
+use Rattle.follow.specs.Follow.{Wait, halted, Running}
 use Rattle.follow.specs.Source.{records}
 use Rattle.follow.specs.Teller.{Teller, Lawful}
 use Rattle.follow.specs.declared.Halt.{Halt}
-use Rattle.follow.specs.declared.Halt.TheVariants.{Wait, Full, Stop}
+use Rattle.follow.specs.declared.Halt.TheVariants as halt
 use Rattle.follow.proofs.Sources.{records-sound}
 use Rattle.follow.proofs.Stream.{waits, used-within}
 use Rattle.follow.specs.declared.Ran.{Ran}
@@ -27,10 +27,10 @@ use Rattle.stream.specs.declared.How.{How}
 use Rattle.stream.specs.declared.How.TheVariants.{On, Stopped, NotRead, NotWritten}
 use Rattle.stream.specs.Pump.{ran_over, after_run, ran_to, seeing, is_on, is_wait, how_after, ReadMore, emptied, refilled, MoreReadAs, BehindRun, BehindWrite, TurnedAs}
 
-is-waiting : (n : Halt) → is_wait n ≡ true → n ≡ Wait
-is-waiting Wait e = refl
-is-waiting Full e = let z : ◌≡◌ {A = ℕ} 0 1 = cc in absurd (omega arith)
-is-waiting (Stop refusal) e = let z : ◌≡◌ {A = ℕ} 0 1 = cc in absurd (omega arith)
+is-waiting : (n : Halt) → is_wait n ≡ true → n ≡ halt.Wait
+is-waiting halt.Wait e = refl
+is-waiting halt.Full e = let z : ◌≡◌ {A = ℕ} 0 1 = cc in absurd (omega arith)
+is-waiting (halt.Stop refusal) e = let z : ◌≡◌ {A = ℕ} 0 1 = cc in absurd (omega arith)
 
 -- what a run used was there: the window moves on by all of it
 pub moves-on : (who : Teller records) (s : State who.State) (buffer : List ℕ) (room : ℕ) → (ran_to who s buffer room).window.from ≡ s.window.from + (ran_over who s buffer room).at
@@ -41,8 +41,8 @@ module _ (who : Teller records) (law : Lawful who) (s : State who.State) (buffer
   next = after_run s ran.state ran.used
 
   -- why it ended
-  halted : {h : Halt} → ran.halt ≡ h → (ran_over who s buffer room).halt ≡ Some h
-  halted e = sym is.halt-is ∙ ap (λ (h : Halt). Some h) e
+  why-halted : {h : Halt} → ran.halt ≡ h → (ran_over who s buffer room).halt ≡ Some (halted h)
+  why-halted e = sym is.halt-is ∙ ap (λ (h : Halt). Some (halted h)) e
 
   next-is : next ≡ ran_to who s buffer room
   next-is = rw (is.state-is, is.used-is)
@@ -60,19 +60,19 @@ module _ (who : Teller records) (law : Lawful who) (s : State who.State) (buffer
   text-handed = let long : length (ran_over who s buffer room).text ≡ ran.to = omega (arith, is.text-is.place) in rw is.text-is.bytes (take_at (ran_over who s buffer room).text _ ran.to long)
 
   -- where it waits, less than a record is left
-  little-left : ran.halt ≡ Wait → length (unused next.window buffer) < length_field + longest_body
-  little-left e = rw (unused-past s.window ran.used buffer, is.used-is) (few-undecided _ (waits records-sound who law s.follower (unused s.window buffer) s.window.last room (halted e)).1)
+  little-left : ran.halt ≡ halt.Wait → length (unused next.window buffer) < length_field + longest_body
+  little-left e = rw (unused-past s.window ran.used buffer, is.used-is) (few-undecided _ (waits records-sound who law s.follower (unused s.window buffer) s.window.last room (why-halted e)).1)
 
   turned-further : is_wait ran.halt ≡ false → TurnedAs who (how_after ran.halt) s buffer room next buffer
   turned-further = go ran.halt refl
     where
       go : (n : Halt) → ran.halt ≡ n → is_wait n ≡ false → TurnedAs who (how_after n) s buffer room next buffer
-      go Wait e f = let z : ◌≡◌ {A = ℕ} 0 1 = cc in absurd (omega arith)
-      go Full e f = (emptied (halted e) next-is refl, next-within)
-      go (Stop refusal) e f = (halted e, next-is)
+      go halt.Wait e f = let z : ◌≡◌ {A = ℕ} 0 1 = cc in absurd (omega arith)
+      go halt.Full e f = (emptied (why-halted e) next-is refl, next-within)
+      go (halt.Stop refusal) e f = (why-halted e, next-is)
 
   turned-by-read : (how : How) (s' : State who.State) (buffer' : List ℕ) → is_wait ran.halt ≡ true → HasRoom next.window buffer → MoreReadAs how next buffer s' buffer' → TurnedAs who how s buffer room s' buffer'
-  turned-by-read how s' buffer' w room-left = go how (halted (is-waiting ran.halt w))
+  turned-by-read how s' buffer' w room-left = go how (why-halted (is-waiting ran.halt w))
     where
       go : (h : How) → (ran_over who s buffer room).halt ≡ Some Wait → MoreReadAs h next buffer s' buffer' → TurnedAs who h s buffer room s' buffer'
       go On e r = (refilled e (subst (λ (t : State who.State). ReadMore t buffer s' buffer') next-is r.0), r.1)

@@ -1,13 +1,14 @@
 -- How a log goes from its input through whoever follows it to an output: what the pump does around its two calls, read and write. Who is the
 -- teller that follows it, over states of its type.
-use Rattle.std.specs.Prelude.{ℕ, suc, ◌≡◌, Bool, true, false, List, [], ◌∷◌, ◌++◌, length, eqb, Some}
-use Rattle.laws.specs.Choice.{pick}
-use Rattle.follow.specs.Follow.{Turn, run_of}
+use Rattle.std.specs.Prelude.{ℕ, suc, ◌≡◌, Bool, true, false, List, [], ◌∷◌, ◌++◌, length, Option, None, Some}
+use Rattle.benchlog.specs.Answers.{stop_number}
+use Rattle.benchlog.specs.declared.Refusal.{Refusal}
+use Rattle.follow.specs.Follow.{Wait, Full, Stop, Turn, run_of}
 use Rattle.follow.specs.Source.{records}
 use Rattle.follow.specs.Teller.{Teller}
 use Rattle.follow.specs.Whole.{joined, printed_from, led_to}
 use Rattle.follow.specs.declared.Halt.{Halt}
-use Rattle.follow.specs.declared.Halt.TheVariants.{Wait, Full, Stop}
+use Rattle.follow.specs.declared.Halt.TheVariants as halt
 use Rattle.follow.specs.declared.Ran.{Ran}
 use Rattle.window.specs.Window.{start, Within, unused, past, at_front, HasRoom, Refilled}
 use Rattle.window.specs.declared.Window.{Window}
@@ -52,15 +53,15 @@ pub data Went (who : Teller records) (s : State who.State) (buffer : List ℕ) (
       → Went who s buffer room s' buffer'
 
 abbrev pub is_wait : Halt → Bool
-is_wait Wait = true
-is_wait Full = false
-is_wait (Stop refusal) = false
+is_wait halt.Wait = true
+is_wait halt.Full = false
+is_wait (halt.Stop refusal) = false
 
 -- behind a run that does not wait, by why it ended
 abbrev pub how_after : Halt → How
-how_after Wait = On
-how_after Full = On
-how_after (Stop refusal) = Stopped refusal
+how_after halt.Wait = On
+how_after halt.Full = On
+how_after (halt.Stop refusal) = Stopped refusal
 
 abbrev pub is_on : How → Bool
 is_on On = true
@@ -90,7 +91,7 @@ BehindWrite false s ran buffer how s' buffer' = (how ≡ NotWritten) × (s' ≡ 
 abbrev pub TurnedAs : (who : Teller records) → How → State who.State → List ℕ → ℕ → State who.State → List ℕ → Type 0
 TurnedAs who On s buffer room s' buffer' = Went who s buffer room s' buffer' × Within s'.window (length buffer)
 TurnedAs who (Stopped refusal) s buffer room s' buffer' =
-    ((ran_over who s buffer room).halt ≡ Some (Stop refusal)) × (s' ≡ ran_to who s buffer room)
+    ((ran_over who s buffer room).halt ≡ Some (Stop (stop_number refusal))) × (s' ≡ ran_to who s buffer room)
 TurnedAs who NotRead s buffer room s' buffer' =
     let ran = ran_to who s buffer room in
     ((ran_over who s buffer room).halt ≡ Some Wait) × (s' ≡ seeing ran (at_front ran.window buffer)) × HasRoom ran.window buffer
@@ -107,7 +108,8 @@ status_number Misused = 2
 -- done, or of a log that was refused; failed where the input or the output did, or more came than turns can do
 abbrev pub status_of : How → Status
 status_of On = Failed
-status_of (Stopped refusal) = pick (eqb refusal 0) Done Refused
+status_of (Stopped None) = Done
+status_of (Stopped (Some refusal)) = Refused
 status_of NotRead = Failed
 status_of NotWritten = Failed
 
@@ -181,7 +183,7 @@ whole_blocks NotWritten l = l.blocks
 module _ (printed : List ℕ → List ℕ) (who : Teller records) (first : who.State) where
   -- the log stopped: the blocks are, joined, what is printed of the parts, joined, and the follower that is handed back is the one to which they
   -- lead; what may stand behind them changes nothing
-  pub record StoppedLog (refusal : ℕ) (ended : Ended who.State) : Type 0 where
+  pub record StoppedLog (refusal : Option Refusal) (ended : Ended who.State) : Type 0 where
     pub last : LastTurn who first (Stopped refusal) ended
     pub text : (rest : List ℕ) → MayFollow last.done rest → joined (all_blocks last) ≡ printed (joined last.parts ++ rest)
     pub led : (rest : List ℕ) → MayFollow last.done rest → ended.follower ≡ led_to who first (joined last.parts ++ rest)

@@ -15,6 +15,7 @@ ghost use Rattle.window.specs.Window.{Within};
 ghost use Rattle.stream.specs.Pump.{pump_start, ran_over, after_run, is_on, is_wait, how_after, MoreReadAs, BehindWrite, TurnedAs, ended_at, PumpedAs, status_of, status_number};
 
 use answers::{Answering, Asked};
+use benchlog::Refusal;
 use follow::{Halt, Ran};
 use handed::{Delivered, write_run};
 use jobs::Follower;
@@ -32,12 +33,11 @@ struct State<F> {
     window: Window,
 }
 
-// What a turn of the pump comes to: another turn; the end of the log, by the refusal with this number or, where it is 0, by none; or a
-// call that failed.
+// What a turn of the pump comes to: another turn; the end of the log, by a refusal or none; or a call that failed.
 #[derive(Clone, Copy)]
 pub enum How {
     On,
-    Stopped(u8),
+    Stopped(Option<Refusal>),
     NotRead,
     NotWritten,
 }
@@ -266,8 +266,8 @@ pub fn status_of(how: How) -> Status
 {
     match how {
         How::On => Status::Failed,
-        How::Stopped(0) => Status::Done,
-        How::Stopped(_) => Status::Refused,
+        How::Stopped(None) => Status::Done,
+        How::Stopped(Some(_)) => Status::Refused,
         How::NotRead => Status::Failed,
         How::NotWritten => Status::Failed,
     }

@@ -4,6 +4,7 @@ use Rattle.std.proofs.Common.{ℕ, ◌+◌, ◌≤◌, Bool, true, false, eqb, L
 use Prim.Native.String.{String}
 use lib.Signed.{lt_z}
 use Rattle.laws.specs.Choice.{pick}
+use Rattle.benchlog.specs.Answers.{stop_number}
 use Rattle.codes.specs.Addresses.{range_at, control_at}
 use Rattle.codes.specs.declared.Mode.{Mode}
 use Rattle.codes.specs.declared.Mode.TheVariants.{Bypass, Fifo, Stream}
@@ -221,12 +222,12 @@ length_over begun number refusal =
 pub length-line : (l : Line) → length (line_text l) ≤ longest_wording
 length-line (line.Stretch from before behind w) = length-stretch from before behind w
 length-line (line.Moded from before behind w) = length-moded from before behind w
-length-line (line.Last begun number refusal) = length_last begun number refusal
+length-line (line.Last begun number refusal) = length_last begun number (stop_number refusal)
 length-line (line.Range a) = length-range a
 length-line (line.Mode a) = length-mode a
 length-line (line.Refused n byte address refusal) = length-refused n byte address refusal
 length-line (line.Totals from to) = length-totals from to
 length-line line.Lost = omega arith
 length-line line.NoReadout = omega arith
-length-line (line.Short refusal number asked) = length-short refusal number asked
-length-line (line.Over begun number refusal) = length_over begun number refusal
+length-line (line.Short refusal number asked) = length-short (stop_number refusal) number asked
+length-line (line.Over begun number refusal) = length_over begun number (stop_number refusal)

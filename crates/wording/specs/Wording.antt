@@ -3,6 +3,7 @@
 use Rattle.std.specs.Prelude.{ℕ, ◌≤◌, Bool, List, [], ◌∷◌, ◌++◌, length, ℤ, pos, ◌==◌, int_lt, unsigned_abs, Option, None, Some}
 use Prim.Native.String.{String}
 use Rattle.laws.specs.Choice.{pick}
+use Rattle.benchlog.specs.Answers.{stop_number}
 use Rattle.codes.specs.Addresses.{range_at, control_at}
 use Rattle.codes.specs.declared.Mode.{Mode}
 use Rattle.codes.specs.declared.Mode.TheVariants.{Bypass, Fifo, Stream}
@@ -198,12 +199,12 @@ over_line begun number refusal =
 abbrev pub line_text : Line → List ℕ
 line_text (line.Stretch from before behind w) = stretch_line from before behind w
 line_text (line.Moded from before behind w) = moded_line from before behind w
-line_text (line.Last begun number refusal) = last_line begun number refusal
+line_text (line.Last begun number refusal) = last_line begun number (stop_number refusal)
 line_text (line.Range a) = range_line a
 line_text (line.Mode a) = mode_line a
 line_text (line.Refused number byte address refusal) = refused_line number byte address refusal
 line_text (line.Totals from to) = totals_line from to
 line_text line.Lost = lost_line
 line_text line.NoReadout = no_readout_line
-line_text (line.Short refusal number asked) = short_line refusal number asked
-line_text (line.Over begun number refusal) = over_line begun number refusal
+line_text (line.Short refusal number asked) = short_line (stop_number refusal) number asked
+line_text (line.Over begun number refusal) = over_line begun number (stop_number refusal)

@@ -3,10 +3,11 @@
 #![tactic(auto)]
 
 ghost use Rattle.std.specs.Prelude.{◌≡◌, ◌+◌, ◌≤◌, [], ◌∷◌, ◌++◌, length};
+ghost use Rattle.benchlog.specs.Answers.{stop_number};
 ghost use Rattle.text.specs.Text.{most_digits, decimal, hex, Pushed, left_in, place_after};
 ghost use Rattle.wording.specs.Wording.{longest_wording, Spelt, column, range_word, mode_word, doubt_sign, range_column, why_word, counts_text, stretch_columns, stretch_line, moded_line, stopped_at, last_line, signed_column, sample_line, wrote_text, refused_line, because_text, from_text, range_line, frames_word, mode_line, totals_text, held_text, totals_line, ended_word, short_line, over_line, line_text};
 
-use benchlog::lacks_room;
+use benchlog::{Refusal, lacks_room};
 use codes::{CONTROL_AT, Mode, RANGE_AT, Range};
 use counts::{Account, Counts, Doubt, Why};
 use text::{put_in_hex, put_number, put_word};
@@ -18,8 +19,8 @@ pub enum Line {
     Stretch(Account, Account, Account, Option<Why>),
     // the same, with the mode
     Moded(Account, Account, Account, Option<Why>),
-    // the last line: whether the version byte is past, how many records there are, and the refusal, 0 where there is none
-    Last(bool, u64, u8),
+    // the last line: whether the version byte is past, how many records there are, and the refusal, where there is one
+    Last(bool, u64, Option<Refusal>),
     // the range, and the mode, from the next record on
     Range(Account),
     Mode(Account),
@@ -29,10 +30,10 @@ pub enum Line {
     Totals(Account, Account),
     Lost,
     NoReadout,
-    // the log stopped, by a refusal or 0, after so many records, before the record that was asked for
-    Short(u8, u64, u64),
+    // the log stopped, by a refusal or none, after so many records, before the record that was asked for
+    Short(Option<Refusal>, u64, u64),
     // how the log ended, as of the last line
-    Over(bool, u64, u8),
+    Over(bool, u64, Option<Refusal>),
 }
 
 // No line is longer.
@@ -234,15 +235,15 @@ fn put_held(out: &mut [u8], at: usize, before: u64, behind: u64, refused: u64) -
     phrase(out, to, refused, b" refused\n")
 }
 
-fn put_ended(out: &mut [u8], at: usize, refusal: u8) -> usize
+fn put_ended(out: &mut [u8], at: usize, refusal: Option<Refusal>) -> usize
     requires { at + 40 ≤ length out.old }
-    ensures { Spelt 40 out.old at (ended_word refusal) out.new result }
+    ensures { Spelt 40 out.old at (ended_word (stop_number refusal)) out.new result }
 {
-    if refusal == 0 {
+    let Some(refusal) = refusal else {
         return word(out, at, b"the log ends");
-    }
+    };
     let to = word(&mut *out, at, b"the log was refused ");
-    number(out, to, refusal as u64)
+    number(out, to, u8::from(refusal) as u64)
 }
 
 // Ten columns.
@@ -299,17 +300,23 @@ fn write_moded(
     word(out, to, b"\n")
 }
 
-fn write_last(out: &mut [u8], at: usize, begun: bool, records: u64, refusal: u8) -> usize
+fn write_last(
+    out: &mut [u8],
+    at: usize,
+    begun: bool,
+    records: u64,
+    refusal: Option<Refusal>,
+) -> usize
     requires { at + longest_wording ≤ length out.old }
-    ensures { Pushed out.old at (last_line begun records refusal) out.new result }
+    ensures { Pushed out.old at (last_line begun records (stop_number refusal)) out.new result }
 {
-    if refusal == 0 {
+    let Some(refusal) = refusal else {
         let to = word(&mut *out, at, b"end ");
         return phrase(out, to, records, b"\n");
-    }
+    };
     let to = word(&mut *out, at, b"stop ");
     let to = put_column(&mut *out, to, stopped_at(begun, records));
-    phrase(out, to, refusal as u64, b"\n")
+    phrase(out, to, u8::from(refusal) as u64, b"\n")
 }
 
 fn write_sample(
@@ -379,9 +386,15 @@ fn write_totals(out: &mut [u8], at: usize, from: Account, upto: Account) -> usiz
     put_held(out, to, from.held, upto.held, between.refused)
 }
 
-fn write_short(out: &mut [u8], at: usize, refusal: u8, records: u64, asked: u64) -> usize
+fn write_short(
+    out: &mut [u8],
+    at: usize,
+    refusal: Option<Refusal>,
+    records: u64,
+    asked: u64,
+) -> usize
     requires { at + longest_wording ≤ length out.old }
-    ensures { Pushed out.old at (short_line refusal records asked) out.new result }
+    ensures { Pushed out.old at (short_line (stop_number refusal) records asked) out.new result }
 {
     let to = put_ended(&mut *out, at, refusal);
     let to = word(&mut *out, to, b" after record ");
@@ -389,16 +402,22 @@ fn write_short(out: &mut [u8], at: usize, refusal: u8, records: u64, asked: u64)
     phrase(out, to, asked, b" is not known\n")
 }
 
-fn write_over(out: &mut [u8], at: usize, begun: bool, records: u64, refusal: u8) -> usize
+fn write_over(
+    out: &mut [u8],
+    at: usize,
+    begun: bool,
+    records: u64,
+    refusal: Option<Refusal>,
+) -> usize
     requires { at + longest_wording ≤ length out.old }
-    ensures { Pushed out.old at (over_line begun records refusal) out.new result }
+    ensures { Pushed out.old at (over_line begun records (stop_number refusal)) out.new result }
 {
-    if refusal == 0 {
+    let Some(refusal) = refusal else {
         let to = word(&mut *out, at, b"the log ends after record ");
         return phrase(out, to, records, b"\n");
-    }
+    };
     let to = word(&mut *out, at, b"the log was refused ");
-    let to = phrase(&mut *out, to, refusal as u64, b" at record ");
+    let to = phrase(&mut *out, to, u8::from(refusal) as u64, b" at record ");
     phrase(out, to, stopped_at(begun, records), b"\n")
 }
 

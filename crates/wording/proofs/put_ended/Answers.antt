@@ -1,6 +1,7 @@
 use Rattle.std.proofs.Common.{ne_eqb}
+use Rattle.benchlog.proofs.Logs.{not-done}
 use Rattle.wording.proofs.Lines.{spelt-two}
 use Rattle.wording.proofs.put_ended.Goals as goal
 
 pub returns : goal.returns
-returns c = rw (ne_eqb _ 0 c.if-refusal-eq0.false) (spelt-two c.word-to.ensures c.number.ensures)
+returns c = rw (c.in-Some.is, ne_eqb _ 0 (not-done c.in-Some.refusal)) (spelt-two c.word-to.ensures (rw c.from.ensures at c.number.ensures))
