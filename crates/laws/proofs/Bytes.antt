@@ -8,8 +8,7 @@ use native.Mathlib.Omega.{arith}
 use native.Mathlib.Nat.{zero-add}
 use native.Mathlib.Numerals.{add-one}
 use lib.ListN.{length, take, drop, get_or, set, replicate, length-append, length-set, length-take, length-drop, length-replicate, replicate-append-replicate, drop_of_length-le}
-use lib.Seq.{paste, paste-zero, paste-suc, take_all, take-add, drop-length, length-take-le, take_at, drop_at, drop-drop, take-take, drop-append-add, take-append-le, drop-append-le}
-use Rattle.std.proofs.lemmas.Slice.{between_is}
+use lib.Seq.{paste, paste-zero, paste-suc, get_or-take, get_or-drop, get_or-append-add, take_all, take-length, take-add, drop-length, length-take-le, take_at, drop_at, drop-drop, drop-append-add, take-append-le, drop-append-le}
 use lib.Dec.{ltb}
 use borrow.Author.Tests.{ltb-true, ltb-false}
 use Rattle.laws.specs.Bytes.{padded, first_or_zeros, zeros, between, moved_forward}
@@ -32,6 +31,13 @@ copied_more {d} {at} {s} {i} {l} {j} {v} g hd hs ej ev = record {
 
 pub copied_all : {d : List ℕ} {at : ℕ} {s : List ℕ} {i : ℕ} {l : List ℕ} (n : ℕ) → i ≡ n → Copied d at s i l → l ≡ paste d at s n
 copied_all {d} {at} {s} n e g = g.is ∙ ap (λ (k : ℕ). paste d at s k) e
+
+-- what lies ahead of a copy to the front is as it was
+pub copied-ahead : {d s : List ℕ} {i : ℕ} {l : List ℕ} (k : ℕ) → Copied d 0 s i l → i ≤ length s → get_or l (k + i) 0 ≡ get_or d (k + i) 0
+copied-ahead {d} {s} {i} {l} k g h =
+    let e : k + i ≡ length (take i s) + k = omega (arith, length-take-le i s h) in
+    let f : 0 + i + k ≡ k + i = omega arith in
+    rw (g.is, e) (get_or-append-add (take i s) (drop (0 + i) d) k 0 ∙ get_or-drop (0 + i) d k 0 ∙ ap (λ (j : ℕ). get_or d j 0) (f ∙ e))
 
 -- all of it is written
 pub paste-whole : (d s : List ℕ) → length s ≡ length d → paste d 0 s (length d) ≡ s
@@ -108,32 +114,12 @@ paste-padded room x s at n e h =
 pub length-between : (from to : ℕ) (bs : List ℕ) → length (between from to bs) ≡ min to (length bs) - from
 length-between from to bs = length-drop from (take to bs) ∙ rw length-take
 
--- a bound past the end is the end
-take-within : (to : ℕ) (bs : List ℕ) → take (min to (length bs)) bs ≡ take to bs
-take-within to bs =
-    let end = min to (length bs) in
-    sym (take-take end to bs (omega arith)) ∙ take_all end (take to bs) (omega (arith, length-take to bs))
+pub get_d_between : (from to : ℕ) (bs : List ℕ) (i : ℕ) → from + i < to → get_or (between from to bs) i 0 ≡ get_or bs (from + i) 0
+get_d_between from to bs i h = get_or-drop from (take to bs) i 0 ∙ get_or-take to bs (from + i) 0 h
 
-drop-within : (from end : ℕ) (bs : List ℕ) → length bs ≡ end → drop (min from end) bs ≡ drop from bs
-drop-within from end bs e = by_test (ltb from end) refl
-  where
-    by_test : (t : Bool) → ltb from end ≡ t → drop (min from end) bs ≡ drop from bs
-    by_test true h = let k : min from end ≡ from = omega (arith, ltb-true from end h) in ap (λ (j : ℕ). drop j bs) k
-    by_test false h =
-        let k = ltb-false from end h in
-        drop_of_length-le bs {i = min from end} (omega arith) ∙ sym (drop_of_length-le bs {i = from} (omega arith))
-
--- a copy to the front of what lies between, by bounds that are inside
-pub copied-within : (from to : ℕ) (bs : List ℕ) → let end = min to (length bs) in let start = min from end in paste bs 0 (drop start bs) (end - start) ≡ moved_forward from to bs
+pub copied-forward : (from to : ℕ) {i : ℕ} {bs l : List ℕ} → i ≡ length (between from to bs) → Copied bs 0 (between from to bs) i l → l ≡ moved_forward from to bs
 unfolding moved_forward
-copied-within from to bs =
-    let end = min to (length bs) in
-    let start = min from end in
-    let long : length (take to bs) ≡ end = length-take to bs in
-    let front : take (end - start) (drop start bs) ≡ between from to bs =
-    between_is bs start end ∙ ap (drop start) (take-within to bs) ∙ drop-within from end (take to bs) long in
-    let rest : 0 + (end - start) ≡ length (between from to bs) = omega (arith, length-between from to bs) in
-    rw (front, rest) refl
+copied-forward from to {bs = bs} e g = copied_all (length (between from to bs)) e g ∙ rw (take-length (between from to bs), zero-add)
 
 -- of a and b, b moves to the front, and s is written behind it
 pub paste-moved : (a b z s : List ℕ) (p q r : ℕ) → length a ≡ p → length b ≡ q → length (a ++ b) ≡ r → paste (moved_forward p r (a ++ b ++ z)) q s p ≡ b ++ take p s ++ z

@@ -39,8 +39,13 @@ pub fn least(a: usize, b: usize) -> usize
 pub fn move_forward(s: &mut [u8], from: usize, to: usize) -> usize
     ensures { (result ≡ length (between from to s.old)) × (s.new ≡ moved_forward from to s.old) }
 {
-    let end = to.min(s.len());
-    let start = from.min(end);
-    s.copy_within(start..end, 0);
-    end - start
+    let end = least(to, s.len());
+    let n = end - least(from, end);
+    // byte by byte: the archive for C needs nothing but memcpy and memset (tests/entry), and copy_within is a memmove
+    let mut i = 0;
+    while i < n {
+        s[i] = s[from + i];
+        i += 1;
+    }
+    n
 }

@@ -1,4 +1,4 @@
--- How many reset bytes there are; and a run of addresses whose rows are alike.
+-- The reset bytes, address by address; and a run of addresses whose rows are alike.
 -- Assumes nothing.
 use Prim.Native.Nat.{ℕ, ◌≤◌, ◌<◌}
 use mathlib.Core.Bool.{false}
@@ -6,14 +6,19 @@ use mathlib.Core.List.{List}
 use mathlib.Core.Path.{◌≡◌, refl, sym}
 use native.Mathlib.Omega.{arith}
 use lib.Dec.{ltb}
-use lib.ListN.{length}
+use lib.ListN.{length, get_or}
 use borrow.Author.Tests.{lt-ltb, le-ltb}
 use Rattle.laws.specs.Choice.{pick}
 use Rattle.laws.specs.Lists.{is_in}
 use Rattle.laws.specs.Table.{up_from}
 use Rattle.laws.proofs.Finite.{alike}
+use Rattle.laws.proofs.Table.{entry}
 use Rattle.table.specs.declared.Row.{Row}
-use Rattle.table.specs.Rows.{row_at, reset_bytes}
+use Rattle.table.specs.Rows.{row_of, row_at, reset_bytes}
+
+pub reset-at : (a : ℕ) → a < 64 → (row_at a).0 ≡ get_or reset_bytes a 0
+unfolding row_at reset_bytes
+reset-at a h = rw (lt-ltb a 64 h) (sym (entry (λ k. (row_of k).0) 0 64 a h))
 
 pub reset-length : length reset_bytes ≡ 64
 unfolding reset_bytes

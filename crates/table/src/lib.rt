@@ -140,7 +140,15 @@ pub fn row_at(address: u8) -> Row
 pub fn reset_bytes() -> [u8; 64]
     ensures { result ≡ reset_bytes }
 {
-    ROWS.map(|row| row.0)
+    // by hand: of `ROWS.map` a soft reset takes twice the stack, and copies a table (tests/entry)
+    let mut bytes = [0u8; 64];
+    let mut i: usize = 0;
+    while i < 64 {
+        let row = row_in_table(i as u8);
+        bytes[i] = row.0;
+        i += 1;
+    }
+    bytes
 }
 
 // The byte that a register holds after a write: the masked bits of the new one, the others as at reset.
