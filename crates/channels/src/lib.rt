@@ -139,13 +139,16 @@ impl Channels {
         }
     }
 
-    // An accepted sample comes.
+    // An accepted sample comes. Each channel is taken out first, here and below: it has 8 bytes and moves as one number.
     pub fn sample(mut self, codes: Codes) -> Self
         ensures { result ≡ sampled codes self }
     {
-        self.x = self.x.sample(codes.x);
-        self.y = self.y.sample(codes.y);
-        self.z = self.z.sample(codes.z);
+        let x = self.x;
+        let y = self.y;
+        let z = self.z;
+        self.x = x.sample(codes.x);
+        self.y = y.sample(codes.y);
+        self.z = z.sample(codes.z);
         self
     }
 
@@ -153,9 +156,12 @@ impl Channels {
     pub fn release(mut self) -> Self
         ensures { result ≡ released self }
     {
-        self.x = self.x.unlock();
-        self.y = self.y.unlock();
-        self.z = self.z.unlock();
+        let x = self.x;
+        let y = self.y;
+        let z = self.z;
+        self.x = x.unlock();
+        self.y = y.unlock();
+        self.z = z.unlock();
         self
     }
 
@@ -163,13 +169,16 @@ impl Channels {
     pub fn byte(self, address: usize) -> u8
         ensures { result ≡ byte_at self address }
     {
+        let x = self.x;
+        let y = self.y;
+        let z = self.z;
         match address {
-            0x02 => self.x.lsb(),
-            0x03 => self.x.msb(),
-            0x04 => self.y.lsb(),
-            0x05 => self.y.msb(),
-            0x06 => self.z.lsb(),
-            0x07 => self.z.msb(),
+            0x02 => x.lsb(),
+            0x03 => x.msb(),
+            0x04 => y.lsb(),
+            0x05 => y.msb(),
+            0x06 => z.lsb(),
+            0x07 => z.msb(),
             _ => 0,
         }
     }
@@ -178,13 +187,16 @@ impl Channels {
     pub fn after_read(mut self, locks: bool, address: usize) -> Self
         ensures { result ≡ after_read locks address self }
     {
+        let x = self.x;
+        let y = self.y;
+        let z = self.z;
         match address {
-            0x02 => self.x = self.x.after_lsb(locks),
-            0x03 => self.x = self.x.unlock(),
-            0x04 => self.y = self.y.after_lsb(locks),
-            0x05 => self.y = self.y.unlock(),
-            0x06 => self.z = self.z.after_lsb(locks),
-            0x07 => self.z = self.z.unlock(),
+            0x02 => self.x = x.after_lsb(locks),
+            0x03 => self.x = x.unlock(),
+            0x04 => self.y = y.after_lsb(locks),
+            0x05 => self.y = y.unlock(),
+            0x06 => self.z = z.after_lsb(locks),
+            0x07 => self.z = z.unlock(),
             _ => {}
         }
         self
