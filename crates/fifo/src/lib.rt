@@ -12,7 +12,7 @@ ghost use Rattle.fifo.specs.Flat.{Room, flat_at, numbers_of, behind, forward, va
 ghost use Rattle.fifo.specs.Store.{room, fitting, no_frames, emptied, pushed_at, readout_at, readout_bytes_at, count_at, status_at};
 
 use codes::{Axes, Mode};
-use laws::move_forward;
+use laws::{least, move_forward};
 
 // The bytes of the accelerometer's store, and of the longest frame.
 pub const ROOM: usize = 192;
@@ -98,7 +98,8 @@ pub fn no_frames() -> [u8; ROOM]
 fn depth_within(depth: usize) -> usize
     ensures { result ≡ fitting room depth }
 {
-    depth.min(ROOM / LONGEST_FRAME).max(1)
+    let most = least(depth, ROOM / LONGEST_FRAME);
+    if most < 1 { 1 } else { most }
 }
 
 // How many frames a readout of n bytes reaches.
@@ -109,12 +110,17 @@ fn frames_reached(n: usize, size: usize) -> usize
     (n + (size - 1)) / size
 }
 
-// The first size bytes of a frame are written from at on.
+// The first size bytes of a frame are written from at on: byte by byte, since the archive for C needs nothing but memcpy and memset, and no event
+// copies a store (tests/entry), as copy_from_slice did.
 fn put(s: &mut [u8], at: usize, frame: &[u8], size: usize)
     requires { (at + size ≤ length s.old) × (size ≤ length frame.now) }
     ensures { s.new ≡ paste s.old at frame.now size }
 {
-    s[at..at + size].copy_from_slice(&frame[..size]);
+    let mut i = 0;
+    while i < size {
+        s[at + i] = frame[i];
+        i += 1;
+    }
 }
 
 // The same. A frame of all axes has a length that the compiler knows, so that it is moved at once.
@@ -134,7 +140,11 @@ fn clear(s: &mut [u8], at: usize, n: usize)
     requires { at + n ≤ length s.old }
     ensures { s.new ≡ paste s.old at (zeros n) n }
 {
-    s[at..at + n].fill(0);
+    let mut i = 0;
+    while i < n {
+        s[at + i] = 0;
+        i += 1;
+    }
 }
 
 // The first held bytes of a store go into out, with zeros after them.
@@ -143,7 +153,7 @@ fn give(s: &[u8], held: usize, out: &mut [u8])
     ensures { out.new ≡ first_or_zeros (length out.old) (take held s.now) }
 {
     let n = out.len();
-    let given = held.min(n);
+    let given = least(held, n);
     put(&mut *out, 0, s, given);
     clear(out, given, n - given);
 }
@@ -178,7 +188,7 @@ fn read_frames(s: &mut [u8], held: usize, size: usize, out: &mut [u8]) -> usize
         (result ≡ held - taken) × (s.new ≡ vacated size held taken (forward size held taken s.old)))
         × (out.new ≡ first_or_zeros (length out.old) (take (held * size) s.old)) }
 {
-    let taken = frames_reached(out.len(), size).min(held);
+    let taken = least(frames_reached(out.len(), size), held);
     let left = held - taken;
     give(&s[..], held * size, out);
     move_forward(&mut *s, taken * size, held * size);
@@ -201,7 +211,7 @@ impl Fifo {
     pub fn count(self, depth: usize) -> usize
         ensures { result ≡ count_at depth self }
     {
-        (self.count as usize).min(depth_within(depth))
+        least(self.count as usize, depth_within(depth))
     }
 
     // The byte of 0x0E.
@@ -225,7 +235,7 @@ impl Fifo {
     {
         let most = depth_within(depth);
         let setting = setting_of(most, mode, axes);
-        let held = (self.count as usize).min(most);
+        let held = least(self.count as usize, most);
         if push_frame(frames, held, setting, &frame) {
             self.count = (held + 1) as u32;
         } else {

@@ -43,4 +43,4 @@ module _ (s : List ℕ) (held : ℕ) (stored : held ≤ length s) where
       ) (sym (first-is (length out)))
 
 pub returns : goal.returns
-returns c = rw (c.clear.ensures, c.put.ensures, c.min-given.ensures) (given_is c.args.s.now c.args.held c.requires c.args.out.now)
+returns c = rw (c.clear.ensures, c.put.ensures, c.least-given.ensures) (given_is c.args.s.now c.args.held c.requires c.args.out.now)

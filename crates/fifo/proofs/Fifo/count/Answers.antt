@@ -4,4 +4,4 @@ use Rattle.fifo.proofs.Fifo.count.Goals as goal
 
 pub returns : goal.returns
 unfolding count_in
-returns c = rw (c.min.ensures, c.depth_within.ensures)
+returns c = rw (c.least.ensures, c.depth_within.ensures)
