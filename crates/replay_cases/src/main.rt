@@ -1,7 +1,7 @@
 // Replays each log of data/, whose files are named 000, 001, .., and prints what the log's writer answers at the edges of its room.
 #![tactic(auto)]
 
-use benchlog::{ClockEntry, CycleEntry, Entry, NoRoom, WriteEntry};
+use benchlog::{ClockEntry, CycleEntry, Entry, WriteEntry, room_number_of};
 use logwriter::{write_entry, write_version};
 use std::fs::File;
 use std::io::Write;
@@ -32,18 +32,10 @@ fn put_number<W: Write>(out: &mut W, n: u64) {
     show::text(out, b" ");
 }
 
-// A writer's number: 0 where it had room.
-fn number_of(written: Result<usize, NoRoom>) -> u8 {
-    match written {
-        Ok(_) => 0,
-        Err(refusal) => u8::from(refusal),
-    }
-}
-
 // The writer's number, the next place, which is the same where there was no room, and the bytes, for a record at a place of a buffer.
 fn put_written<W: Write>(out: &mut W, buffer: &mut [u8], place: usize, entry: Entry) {
     let written = write_entry(&mut *buffer, place, entry);
-    put_number(&mut *out, number_of(written) as u64);
+    put_number(&mut *out, room_number_of(written) as u64);
     put_number(&mut *out, written.unwrap_or(place) as u64);
     show::bytes(&mut *out, &*buffer);
     show::text(out, b"\n");
@@ -54,7 +46,7 @@ fn versions<W: Write>(out: &mut W) {
     let mut one = [0xEEu8; 1];
     for place in [0, 1, usize::MAX] {
         let written = write_version(&mut one, place);
-        put_number(&mut *out, number_of(written) as u64);
+        put_number(&mut *out, room_number_of(written) as u64);
     }
     show::bytes(&mut *out, &one);
     show::text(out, b"\n");

@@ -4,6 +4,7 @@ use mathlib.Core.Path.{refl}
 use Rattle.laws.specs.Outcome.{Settled}
 use Rattle.laws.proofs.Outcome.{settles, meet}
 use Rattle.sheets.specs.contracts.U8FromTooLarge.from as number
+use Rattle.sheets.specs.contracts.join_number as join-number
 use Rattle.sheets.specs.contracts.join_counts as join-counts
 use Rattle.sheets.specs.contracts.join_sums as join-sums
 use Rattle.sheets.specs.contracts.extremes_over as extremes-over
@@ -20,6 +21,9 @@ use Rattle.sheets.specs.contracts.Month.joined as month-joined
 
 pub number-settled : Settled number.ended (λ M 𝓤. number.clauses) (λ M 𝓤. number.spec)
 number-settled = settles (λ κs a r r' s s' p q. (meet p q, refl))
+
+pub join-number-settled : Settled join-number.ended (λ M 𝓤. join-number.clauses) (λ M 𝓤. join-number.spec)
+join-number-settled = settles (λ κs a r r' s s' p q. (meet p q, refl))
 
 pub join-counts-settled : Settled join-counts.ended (λ M 𝓤. join-counts.clauses) (λ M 𝓤. join-counts.spec)
 join-counts-settled = settles (λ κs a r r' s s' p q. (meet p q, refl))

@@ -1,7 +1,7 @@
 -- Q-8: "one sheet over many logs: samples accepted, taken, held at the end, lost, and held when the FIFO was cleared; per range and axis smallest, largest
 -- (none where no sample came) and signed sum of stored counts; clock total." The numbers of a sheet are exact here, and without bounds; `fits` says
 -- which of them go into 64 bits.
-use Rattle.std.specs.Prelude.{ℕ, ◌+◌, ◌^◌, Bool, ltb, Option, Some, None, Result, Ok, Err, ℤ, pos, ◌+ℤ◌}
+use Rattle.std.specs.Prelude.{ℕ, ◌+◌, ◌^◌, Bool, true, false, ltb, Option, Some, None, Result, Ok, Err, ℤ, pos, ◌+ℤ◌}
 use Rattle.std.specs.Int.Signed.{mag, lt_z}
 use Rattle.laws.specs.Choice.{pick, both}
 use Rattle.sheets.specs.declared.Extremes.{Extremes}
@@ -134,6 +134,10 @@ kept first (Err e) = first
 abbrev pub too_large : ℕ
 too_large = 15
 
+-- the number of a join, by whether it fits
+abbrev pub fit_number : Bool → ℕ
+fit_number fits = pick fits 0 too_large
+
 abbrev pub join_number : {T : Type 0} → Result T TooLarge → ℕ
-join_number (Ok sum) = 0
-join_number (Err e) = too_large
+join_number (Ok sum) = fit_number true
+join_number (Err e) = fit_number false

@@ -3,7 +3,7 @@
 #![tactic(auto)]
 
 ghost use Rattle.std.specs.Prelude.{◌≡◌};
-ghost use Rattle.sheets.specs.Sheets.{no_tally, no_tallies, no_ranges, empty_sheet, empty_month, wider, extremes_over, count_joined, sum_joined, tally_joined, axes_joined, ranges_joined, sheet_joined, month_joined, too_large};
+ghost use Rattle.sheets.specs.Sheets.{no_tally, no_tallies, no_ranges, empty_sheet, empty_month, wider, extremes_over, count_joined, sum_joined, tally_joined, axes_joined, ranges_joined, sheet_joined, month_joined, too_large, fit_number};
 
 // The smallest and the largest of some stored counts.
 #[derive(Clone, Copy, Debug, PartialEq, Eq)]
@@ -70,6 +70,13 @@ impl From<TooLarge> for u8 {
     fn from(_refusal: TooLarge) -> u8 {
         TOO_LARGE
     }
+}
+
+// The number of a join, by whether it fits (`joined.is_ok()`): 0, or 15 where a total would not.
+pub fn join_number(fits: bool) -> u8
+    ensures { result ≡ fit_number fits }
+{
+    if fits { 0 } else { TOO_LARGE }
 }
 
 // ---- totals. No trait for the joins: each names its own fields, and nothing is generic over a total
