@@ -4,6 +4,7 @@ pub mod Tallies
 pub mod Over
 pub mod Few
 pub mod Log
+pub mod SoFar
 pub mod Promise
 pub mod Months
 pub mod Edges

@@ -26,11 +26,11 @@ use Rattle.paper.specs.Stored.{byte_by}
 use Rattle.paper.proofs.Offsets.{stored-after}
 use Rattle.paper.proofs.Samples.{sample-is}
 use Rattle.ranges.proofs.Ranges.{range-in-force, range-some}
-use Rattle.sheets.specs.Sheets.{count_fits, sum_fits, axes_over, axes_fit, ranges_fit, count_joined, axes_joined}
+use Rattle.sheets.specs.Sheets.{kept, count_fits, sum_fits, axes_over, axes_fit, ranges_fit, count_joined, axes_joined}
 use Rattle.sheets.specs.declared.ByAxis.{ByAxis}
 use Rattle.sheets.specs.declared.ByRange.{ByRange}
 use Rattle.sheets.specs.declared.TooLarge.{TooLarge}
-use Rattle.tally.specs.Tally.{no_sums, one_sample, with_row, going_on, ranges_sampled, sums_clocked, sums_sampled}
+use Rattle.tally.specs.Tally.{no_sums, one_sample, with_row, going_on, ranges_sampled, fitted_with, sums_clocked, sums_sampled, so_far}
 use Rattle.tally.specs.declared.Sums.{Sums}
 use Rattle.tally.specs.declared.Totals.{Totals}
 use Rattle.sheeting.specs.Sheeting.{sums_after, sums_with_sample}
@@ -48,7 +48,7 @@ abbrev pub exact_totals : List Event → Totals
 exact_totals es = record { clock = clock_in es; ranges = ranges_in es }
 
 abbrev pub exact_sums : List Event → Sums
-exact_sums es = record { so_far = Ok (exact_totals es) }
+exact_sums es = record { totals = exact_totals es; fitted = Ok tt }
 
 abbrev passed : Result Totals TooLarge
 passed = Err (record {})
@@ -63,7 +63,7 @@ fits_along (e ∷ es) = both (fits_along es) (sums_fit (e ∷ es))
 
 -- what one event more comes to: the sums of the history where they fit, and else none
 record Stepped (es : List Event) (e : Event) (s : Sums) : Type 0 where
-  is : s.so_far ≡ pick (sums_fit (e ∷ es)) (Ok (exact_totals (e ∷ es))) passed
+  is : so_far s ≡ pick (sums_fit (e ∷ es)) (Ok (exact_totals (e ∷ es))) passed
 
 -- ---- an event that brings no sample and no time
 axes-same : (es : List Event) (e : Event) → is_sample e ≡ false → (g : ℕ) → axes_of (λ g axis. counts_at g axis (e ∷ es)) g ≡ axes_of (λ g axis. counts_at g axis es) g
@@ -91,7 +91,8 @@ clocked es us fits =
     record { is = go (count_fits (clock_in es + us)) r (ap ranges_fit r ∙ in-range) }
   where
     go : (t : Bool) → ranges_in (clock us ∷ es) ≡ ranges_in es → ranges_fit (ranges_in (clock us ∷ es)) ≡ true
-        → going_on (λ n. Ok (record { clock = n; ranges = ranges_in es })) (pick {A = Result ℕ TooLarge} t (Ok (clock_in es + us)) (Err (record {})))
+        → (let j = pick {A = Result ℕ TooLarge} t (Ok (clock_in es + us)) (Err (record {})) in
+        so_far (record { totals = record { clock = kept (clock_in es) j; ranges = ranges_in es }; fitted = fitted_with (Ok tt) j }))
         ≡ pick (both t (ranges_fit (ranges_in (clock us ∷ es)))) (Ok (exact_totals (clock us ∷ es))) passed
     go true r f = rw f (λ i. Ok (record { clock = clock_in es + us; ranges = sym r i }))
     go false r f = refl
@@ -144,7 +145,8 @@ module _ (es : List Event) (e : Event) (yes : is_sample e ≡ true) (still : clo
 
   -- a joined row in its place, where it fits
   made : (t : Bool) (joined : ByAxis) (placed : ByAxis → ByRange) → ranges_in (e ∷ es) ≡ placed joined → sums_fit (e ∷ es) ≡ t
-      → going_on (λ ranges. Ok (record { clock = clock_in es; ranges = ranges })) (going_on (λ row. Ok (placed row)) (pick {A = Result ByAxis TooLarge} t (Ok joined) (Err (record {}))))
+      → (let j = going_on (λ row. Ok (placed row)) (pick {A = Result ByAxis TooLarge} t (Ok joined) (Err (record {}))) in
+      so_far (record { totals = record { clock = clock_in es; ranges = kept (ranges_in es) j }; fitted = fitted_with (Ok tt) j }))
       ≡ pick (sums_fit (e ∷ es)) (Ok (exact_totals (e ∷ es))) passed
   made true joined placed next same = rw same (λ i. Ok (record { clock = sym still i; ranges = sym next i }))
   made false joined placed next same = rw same refl
@@ -238,31 +240,57 @@ unfolding fits_along
 along-fits [] h = none-fit
 along-fits (e ∷ es) h = right (fits_along es) (sums_fit (e ∷ es)) h
 
--- once a total did not fit, it did not
-stays-wrong : (s : Sums) (e : Event) (a : Answer) (d : Device) → s.so_far ≡ passed → (sums_after s e a d).so_far ≡ passed
+abbrev any-fits : Result Totals TooLarge → Bool
+any-fits (Ok total) = true
+any-fits (Err e) = false
+
+clash : {A : Type 0} {b : Bool} → b ≡ true → b ≡ false → A
+clash {b = true} p q = let z : ◌≡◌ {A = ℕ} 0 1 = cc in absurd (omega arith)
+clash {b = false} p q = let z : ◌≡◌ {A = ℕ} 0 1 = cc in absurd (omega arith)
+
+-- sums of which every one has fitted are their totals, and nothing else
+whole : (s : Sums) (t : Totals) → so_far s ≡ Ok t → s ≡ record { totals = t; fitted = Ok tt }
+whole s t h = go s.fitted refl
+  where
+    seen : (fitted : Result Unit TooLarge) → s.fitted ≡ fitted → so_far (record { totals = s.totals; fitted = fitted }) ≡ Ok t
+    seen fitted is = ap (λ (f : Result Unit TooLarge). so_far (record { totals = s.totals; fitted = f })) (sym is) ∙ h
+
+    go : (fitted : Result Unit TooLarge) → s.fitted ≡ fitted → s ≡ record { totals = t; fitted = Ok tt }
+    go (Ok u) is = let same : s.totals ≡ t = ap (kept s.totals) (seen (Ok u) is) in λ i. record { totals = same i; fitted = is i }
+    go (Err e) is = clash (ap any-fits (seen (Err e) is)) refl
+
+-- once a total did not fit, it did not, whatever a join comes to
+still-wrong : {T : Type 0} (before behind : Totals) (fitted : Result Unit TooLarge) (j : Result T TooLarge)
+    → so_far (record { totals = before; fitted = fitted }) ≡ passed → so_far (record { totals = behind; fitted = fitted_with fitted j }) ≡ passed
+still-wrong before behind (Ok u) j h = clash refl (ap any-fits h)
+still-wrong before behind (Err e) (Ok total) h = refl
+still-wrong before behind (Err e) (Err e') h = refl
+
+stays-wrong : (s : Sums) (e : Event) (a : Answer) (d : Device) → so_far s ≡ passed → so_far (sums_after s e a d) ≡ passed
 unfolding sums_clocked sums_sampled
 stays-wrong s power_up a d h = h
 stays-wrong s (write address byte) a d h = h
 stays-wrong s (read address n) a d h = h
 stays-wrong s (sample x y z temperature) a d h = go (accepted a)
   where
-    go : (t : Bool) → (pick t (let stored = stored_in d x y z in sums_sampled s (range_in d) stored.x stored.y stored.z) s).so_far ≡ passed
-    go true = rw h
+    go : (t : Bool) → so_far (pick t (let stored = stored_in d x y z in sums_sampled s (range_in d) stored.x stored.y stored.z) s) ≡ passed
+    go true =
+        let v = stored_in d x y z in
+        let j = ranges_sampled s.totals.ranges (range_in d) (one_sample v.x v.y v.z) in
+        still-wrong s.totals (record { clock = s.totals.clock; ranges = kept s.totals.ranges j }) s.fitted j h
     go false = h
 stays-wrong s cycle a d h = h
-stays-wrong s (clock us) a d h = rw h
+stays-wrong s (clock us) a d h =
+    let j = count_joined s.totals.clock us in
+    still-wrong s.totals (record { clock = kept s.totals.clock j; ranges = s.totals.ranges }) s.fitted j h
 
 pub record Exactly (es : List Event) : Type 0 where
   pub right-ones : fits_along es ≡ true → stepped_sums es ≡ exact_sums es
-  pub wrong-ones : fits_along es ≡ false → (stepped_sums es).so_far ≡ passed
+  pub wrong-ones : fits_along es ≡ false → so_far (stepped_sums es) ≡ passed
 
 start-exact : no_sums ≡ exact_sums []
 unfolding clock_in counts_at tally_of
 start-exact = refl
-
-clash : {A : Type 0} {b : Bool} → b ≡ true → b ≡ false → A
-clash {b = true} p q = let z : ◌≡◌ {A = ℕ} 0 1 = cc in absurd (omega arith)
-clash {b = false} p q = let z : ◌≡◌ {A = ℕ} 0 1 = cc in absurd (omega arith)
 
 start-exactly : Exactly []
 unfolding stepped_sums fits_along
@@ -277,12 +305,12 @@ module _ (es : List Event) (e : Event) (before : Exactly es) where
       let l = left (fits_along es) (sums_fit (e ∷ es)) h in
       let fit : sums_fit (e ∷ es) ≡ true = right (fits_along es) (sums_fit (e ∷ es)) h in
       let is = rw fit at (step es e (along-fits es l)).is in
-      ap more (before.right-ones l) ∙ (λ i. record { so_far = is i })
+      ap more (before.right-ones l) ∙ whole (more (exact_sums es)) (exact_totals (e ∷ es)) is
 
-  more-wrong : (t : Bool) → fits_along es ≡ t → both (fits_along es) (sums_fit (e ∷ es)) ≡ false → (more (stepped_sums es)).so_far ≡ passed
+  more-wrong : (t : Bool) → fits_along es ≡ t → both (fits_along es) (sums_fit (e ∷ es)) ≡ false → so_far (more (stepped_sums es)) ≡ passed
   more-wrong true l h =
       let unfit : sums_fit (e ∷ es) ≡ false = ap (λ (b : Bool). both b (sums_fit (e ∷ es))) (sym l) ∙ h in
-      ap (λ (s : Sums). (more s).so_far) (before.right-ones l) ∙ rw unfit at (step es e (along-fits es l)).is
+      ap (λ (s : Sums). so_far (more s)) (before.right-ones l) ∙ rw unfit at (step es e (along-fits es l)).is
   more-wrong false l h = stays-wrong (stepped_sums es) e (happens (after es) e).answer (after (e ∷ es)) (before.wrong-ones l)
 
   exact-next : Exactly (e ∷ es)

@@ -2,7 +2,7 @@
 use Rattle.std.specs.Prelude.{ℕ, Option, Some, None, Result, Ok, Err, ℤ}
 use Rattle.codes.specs.declared.Range.{Range}
 use Rattle.codes.specs.declared.Range.TheVariants.{G2, G4, G8, G16, Reserved}
-use Rattle.sheets.specs.Sheets.{no_ranges, from_to, count_joined, axes_joined}
+use Rattle.sheets.specs.Sheets.{no_ranges, from_to, kept, count_joined, axes_joined}
 use Rattle.sheets.specs.declared.ByAxis.{ByAxis}
 use Rattle.sheets.specs.declared.ByRange.{ByRange}
 use Rattle.sheets.specs.declared.Tally.{Tally}
@@ -51,23 +51,37 @@ abbrev pub no_totals : Totals
 no_totals = record { clock = 0; ranges = no_ranges }
 
 abbrev pub no_sums : Sums
-no_sums = record { so_far = Ok no_totals }
+no_sums = record { totals = no_totals; fitted = Ok tt }
 
+-- "at the event that would pass": once a total did not fit, it did not
+abbrev pub fitted_with : {T : Type 0} → Result Unit TooLarge → Result T TooLarge → Result Unit TooLarge
+fitted_with fitted (Ok total) = fitted
+fitted_with fitted (Err e) = Err e
+
+-- a clock or a row that would not fit stays as it was, and the others go on
+unfoldable pub sums_clocked : Sums → ℕ → Sums
+sums_clocked s us =
+    let j = count_joined s.totals.clock us in
+    record { totals = record { clock = kept s.totals.clock j; ranges = s.totals.ranges }; fitted = fitted_with s.fitted j }
+
+unfoldable pub sums_sampled : Sums → Range → ℤ → ℤ → ℤ → Sums
+sums_sampled s range x y z =
+    let j = ranges_sampled s.totals.ranges range (one_sample x y z) in
+    record { totals = record { clock = s.totals.clock; ranges = kept s.totals.ranges j }; fitted = fitted_with s.fitted j }
+
+-- the totals, where every one has fitted at every event
+abbrev pub so_far : Sums → Result Totals TooLarge
+so_far s = going_on (λ fitted. Ok s.totals) s.fitted
+
+-- what an event makes of these
 abbrev pub with_clock : ℕ → Totals → Result Totals TooLarge
 with_clock us t = going_on (λ clock. Ok (record { clock = clock; ranges = t.ranges })) (count_joined t.clock us)
 
 abbrev pub with_sample : Range → ByAxis → Totals → Result Totals TooLarge
 with_sample range s t = going_on (λ ranges. Ok (record { clock = t.clock; ranges = ranges })) (ranges_sampled t.ranges range s)
 
--- "at the event that would pass": once a total did not fit, it did not
 abbrev pub totals_clocked : Result Totals TooLarge → ℕ → Result Totals TooLarge
-totals_clocked so_far us = going_on (with_clock us) so_far
+totals_clocked before us = going_on (with_clock us) before
 
 abbrev pub totals_sampled : Result Totals TooLarge → Range → ByAxis → Result Totals TooLarge
-totals_sampled so_far range s = going_on (with_sample range s) so_far
-
-unfoldable pub sums_clocked : Sums → ℕ → Sums
-sums_clocked s us = record { so_far = totals_clocked s.so_far us }
-
-unfoldable pub sums_sampled : Sums → Range → ℤ → ℤ → ℤ → Sums
-sums_sampled s range x y z = record { so_far = totals_sampled s.so_far range (one_sample x y z) }
+totals_sampled before range s = going_on (with_sample range s) before

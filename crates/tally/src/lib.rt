@@ -3,7 +3,8 @@
 #![tactic(auto)]
 
 ghost use Rattle.std.specs.Prelude.{◌≡◌};
-ghost use Rattle.tally.specs.Tally.{no_sums, one_tally, one_sample, row_of, with_row, ranges_sampled, totals_clocked, totals_sampled, sums_clocked, sums_sampled};
+ghost use Rattle.sheets.specs.Sheets.{kept, axes_joined};
+ghost use Rattle.tally.specs.Tally.{no_sums, one_tally, one_sample, ranges_sampled, sums_clocked, sums_sampled, fitted_with, so_far};
 
 use codes::Range;
 use sheets::{ByAxis, ByRange, Extremes, Tally, TooLarge, join_counts};
@@ -15,10 +16,11 @@ pub struct Totals {
     pub ranges: ByRange,
 }
 
-// The totals so far, where every one has fitted at every event.
+// The totals so far, each without what would not have fitted, and whether every one has fitted at every event.
 #[derive(Clone, Copy)]
 pub struct Sums {
-    pub so_far: Result<Totals, TooLarge>,
+    pub totals: Totals,
+    pub fitted: Result<(), TooLarge>,
 }
 
 // The tally of one stored count.
@@ -45,65 +47,27 @@ fn one_sample(x: i16, y: i16, z: i16) -> ByAxis
     }
 }
 
-// The row of a range. No write of an unknown code is accepted, so no sample comes in an unknown range: there is no row for one.
-fn row_of(ranges: ByRange, range: Range) -> Option<ByAxis>
-    ensures { result ≡ row_of ranges range }
+// With a sample more in one row, where it fits.
+fn add(row: &mut ByAxis, sample: ByAxis) -> Result<(), TooLarge>
+    ensures { (row.new ≡ kept row.old (axes_joined row.old sample)) × (result ≡ fitted_with (Ok tt) (axes_joined row.old sample)) }
 {
-    match range {
-        Range::G2 => Some(ranges.g2),
-        Range::G4 => Some(ranges.g4),
-        Range::G8 => Some(ranges.g8),
-        Range::G16 => Some(ranges.g16),
-        Range::Reserved => None,
-    }
+    *row = row.joined(sample)?;
+    Ok(())
 }
 
-// With this row for that of the range.
-fn with_row(ranges: ByRange, range: Range, row: ByAxis) -> ByRange
-    ensures { result ≡ with_row ranges range row }
-{
-    match range {
-        Range::G2 => ByRange { g2: row, ..ranges },
-        Range::G4 => ByRange { g4: row, ..ranges },
-        Range::G8 => ByRange { g8: row, ..ranges },
-        Range::G16 => ByRange { g16: row, ..ranges },
-        Range::Reserved => ranges,
-    }
-}
-
-// With a sample more, in the row of the range in force.
+// With a sample more, in the row of the range in force. No write of an unknown code is accepted, so no sample comes in an unknown range: there is
+// no row for one.
 #[tactic(auto, unfolding(crate::specs::Tally::ranges_sampled))]
-fn with_sample(ranges: ByRange, range: Range, sample: ByAxis) -> Result<ByRange, TooLarge>
-    ensures { result ≡ ranges_sampled ranges range sample }
+fn add_in(ranges: &mut ByRange, range: Range, sample: ByAxis) -> Result<(), TooLarge>
+    ensures { (ranges.new ≡ kept ranges.old (ranges_sampled ranges.old range sample)) × (result ≡ fitted_with (Ok tt) (ranges_sampled ranges.old range sample)) }
 {
-    match row_of(ranges, range) {
-        Some(row) => Ok(with_row(ranges, range, row.joined(sample)?)),
-        None => Ok(ranges),
+    match range {
+        Range::G2 => add(&mut ranges.g2, sample),
+        Range::G4 => add(&mut ranges.g4, sample),
+        Range::G8 => add(&mut ranges.g8, sample),
+        Range::G16 => add(&mut ranges.g16, sample),
+        Range::Reserved => Ok(()),
     }
-}
-
-fn totals_clocked(so_far: Result<Totals, TooLarge>, microseconds: u32) -> Result<Totals, TooLarge>
-    ensures { result ≡ totals_clocked so_far microseconds }
-{
-    let totals = so_far?;
-    Ok(Totals {
-        clock: join_counts(totals.clock, microseconds as u64)?,
-        ranges: totals.ranges,
-    })
-}
-
-fn totals_sampled(
-    so_far: Result<Totals, TooLarge>,
-    range: Range,
-    sample: ByAxis,
-) -> Result<Totals, TooLarge>
-    ensures { result ≡ totals_sampled so_far range sample }
-{
-    let Totals { clock, ranges } = so_far?;
-    Ok(Totals {
-        clock,
-        ranges: with_sample(ranges, range, sample)?,
-    })
 }
 
 impl Sums {
@@ -112,29 +76,58 @@ impl Sums {
         ensures { result ≡ no_sums }
     {
         Sums {
-            so_far: Ok(Totals {
+            totals: Totals {
                 clock: 0,
                 ranges: ByRange::none(),
-            }),
+            },
+            fitted: Ok(()),
+        }
+    }
+
+    // The totals, where every one has fitted.
+    pub fn so_far(self) -> Result<Totals, TooLarge>
+        ensures { result ≡ so_far self }
+    {
+        self.fitted?;
+        Ok(self.totals)
+    }
+
+    // A clock of so many microseconds comes. Here and in `sample` the sums are lent: by value each event would copy all rows.
+    #[tactic(auto, unfolding(crate::specs::Tally::sums_clocked))]
+    pub fn clock(&mut self, microseconds: u32)
+        ensures { self.new ≡ sums_clocked self.old microseconds }
+    {
+        match join_counts(self.totals.clock, microseconds as u64) {
+            Ok(clock) => self.totals.clock = clock,
+            Err(refusal) => self.fitted = Err(refusal),
+        }
+    }
+
+    // An accepted sample comes, as it is stored, in the range in force. Out of line, so that the sums stay where they lie: compiled in place, all
+    // of them would be carried from record to record.
+    #[inline(never)]
+    #[tactic(auto, unfolding(crate::specs::Tally::sums_sampled))]
+    pub fn sample(&mut self, range: Range, x: i16, y: i16, z: i16)
+        ensures { self.new ≡ sums_sampled self.old range x y z }
+    {
+        if let Err(refusal) = add_in(&mut self.totals.ranges, range, one_sample(x, y, z)) {
+            self.fitted = Err(refusal);
         }
     }
 
     // Behind a clock of so many microseconds.
-    #[tactic(auto, unfolding(crate::specs::Tally::sums_clocked))]
-    pub fn clocked(self, microseconds: u32) -> Self
+    pub fn clocked(mut self, microseconds: u32) -> Self
         ensures { result ≡ sums_clocked self microseconds }
     {
-        Sums {
-            so_far: totals_clocked(self.so_far, microseconds),
-        }
+        self.clock(microseconds);
+        self
     }
 
     // Behind an accepted sample, as it is stored, in the range in force.
-    pub fn sampled(self, range: Range, x: i16, y: i16, z: i16) -> Self
+    pub fn sampled(mut self, range: Range, x: i16, y: i16, z: i16) -> Self
         ensures { result ≡ sums_sampled self range x y z }
     {
-        Sums {
-            so_far: totals_sampled(self.so_far, range, one_sample(x, y, z)),
-        }
+        self.sample(range, x, y, z);
+        self
     }
 }
