@@ -92,9 +92,9 @@ impl Sums {
         Ok(self.totals)
     }
 
-    // A clock of so many microseconds comes. Here and in `sample` the sums are lent: by value each event would copy all rows.
+    // A clock of so many microseconds comes. Here and in `add_sample` the sums are lent: by value each event would copy all rows.
     #[tactic(auto, unfolding(crate::specs::Tally::sums_clocked))]
-    pub fn clock(&mut self, microseconds: u32)
+    pub fn add_clock(&mut self, microseconds: u32)
         ensures { self.new ≡ sums_clocked self.old microseconds }
     {
         match join_counts(self.totals.clock, microseconds as u64) {
@@ -107,7 +107,7 @@ impl Sums {
     // of them would be carried from record to record.
     #[inline(never)]
     #[tactic(auto, unfolding(crate::specs::Tally::sums_sampled))]
-    pub fn sample(&mut self, range: Range, x: i16, y: i16, z: i16)
+    pub fn add_sample(&mut self, range: Range, x: i16, y: i16, z: i16)
         ensures { self.new ≡ sums_sampled self.old range x y z }
     {
         if let Err(refusal) = add_in(&mut self.totals.ranges, range, one_sample(x, y, z)) {
@@ -119,7 +119,7 @@ impl Sums {
     pub fn clocked(mut self, microseconds: u32) -> Self
         ensures { result ≡ sums_clocked self microseconds }
     {
-        self.clock(microseconds);
+        self.add_clock(microseconds);
         self
     }
 
@@ -127,7 +127,7 @@ impl Sums {
     pub fn sampled(mut self, range: Range, x: i16, y: i16, z: i16) -> Self
         ensures { result ≡ sums_sampled self range x y z }
     {
-        self.sample(range, x, y, z);
+        self.add_sample(range, x, y, z);
         self
     }
 }

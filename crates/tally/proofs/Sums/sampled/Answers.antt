@@ -6,4 +6,4 @@ pub returns : goal.returns
 unfolding sums_sampled
 returns c =
     let f = c.ranges in
-    rw (to_z-of_z f.x, to_z-of_z f.y, to_z-of_z f.z) at c.sample.ensures
+    rw (to_z-of_z f.x, to_z-of_z f.y, to_z-of_z f.z) at c.add_sample.ensures
